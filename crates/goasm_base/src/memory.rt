@@ -1,0 +1,21 @@
+ghost use Rattle.std.specs.Prelude.{◌≡◌};
+
+use std::alloc::{AllocError, AllocFailed};
+use thiserror::Error;
+
+/// There was no memory for an answer. What the caller handed in is as before.
+#[derive(Clone, Copy, Debug, PartialEq, Eq, Error)]
+#[error("out of memory")]
+pub struct Memory;
+
+impl From<AllocError> for Memory {
+    fn from(_: AllocError) -> Self {
+        Memory
+    }
+}
+
+impl<T: Drop> From<AllocFailed<T>> for Memory {
+    fn from(_: AllocFailed<T>) -> Self {
+        Memory
+    }
+}
