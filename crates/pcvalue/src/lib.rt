@@ -1,13 +1,13 @@
-// A library with one function.
+//! The pc-value tables of Go's function tables: a value for each place of a function's text, kept as
+//! runs of variable-length numbers (`pcvalue` and `step` in Go's `runtime/symtab.go`).
 #![tactic(auto)]
 
-ghost use Rattle.std.specs.Prelude.{◌≡◌};
-ghost use Rattle.pcvalue.specs.Echo.{echo_of};
+mod answer;
+mod lookup;
+mod run;
+mod step;
+mod varint;
 
-// The `ensures` clause is the contract: what `echo` returns is `echo_of` of its argument, a definition
-// in `specs/Echo.antt`, which a caller's clause can cite too.
-pub fn echo(x: usize) -> usize
-    ensures { result ≡ echo_of x }
-{
-    x
-}
+pub use answer::Answer;
+pub use lookup::{is_pc_table, value_at};
+pub use run::Run;
