@@ -1,0 +1,3 @@
+mod BelowLemmas
+mod TextLemmas
+mod PcLemmas

@@ -1,0 +1,25 @@
+-- What the later steps of reading a table know from the earlier ones.
+use Rattle.std.specs.Prelude.{ℕ, List, ◌^◌, ◌<◌, ◌≤◌, length}
+use Rattle.pclntab.specs.Places.{header_size, func_count}
+use Rattle.pclntab.specs.Table.{HasTables, IsTable}
+
+-- a table whose header is whole and whose five tables begin within the bytes
+pub record IsReady (bytes : List ℕ) : Type 0 where
+  pub long : header_size ≤ length bytes
+  pub short : length bytes < 2 ^ 32
+  pub tables : HasTables bytes
+
+-- a table that was read
+pub record IsRead (bytes : List ℕ) : Type 0 where
+  pub short : length bytes < 2 ^ 32
+  pub table : IsTable bytes
+
+-- the bytes of the pc-value tables, and the quantum in which these count places
+pub record PcTablesView : Type 0 where
+  pub bytes : List ℕ
+  pub quantum : ℕ
+
+-- a function of a table that was read
+pub record IsFuncOf (bytes : List ℕ) (index : ℕ) : Type 0 where
+  pub table : IsRead bytes
+  pub within : index < func_count bytes

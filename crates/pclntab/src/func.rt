@@ -1,0 +1,165 @@
+ghost use Rattle.std.specs.Prelude.{◌≡◌, ◌≢◌, ◌<◌, ◌≤◌, ◌^◌, ◌+◌, ◌↔◌, Some, length, IsTrue};
+ghost use Rattle.std.specs.Option.{option_map};
+ghost use Rattle.pclntab.specs.Func as spec;
+ghost use Rattle.pclntab.specs.Places.{text_start};
+ghost use Rattle.pclntab.specs.Ready.{IsReady, IsFuncOf};
+ghost use Rattle.pclntab.specs.Table.{NamesPcTable};
+ghost use Rattle.pclntab.specs.Func.{HasPc, entry_of, end_of, name_of, args_of, flags_of, depth_at, line_at, file_at, answer_at};
+
+use crate::names::text_from;
+use crate::places;
+use crate::words::u32_at;
+use pcvalue::{Answer, value_at};
+use std::marker::Model;
+
+/// A function of a table. Contracts see the table's bytes and the function's number, from 0 in the order of entries.
+#[derive(Drop)]
+pub struct Func<'a> {
+    bytes: &'a [u8],
+    index: u32,
+}
+
+impl<'a> Model for Func<'a> {
+    ghost use Rattle.std.specs.Prelude.{◌<◌};
+    ghost use Rattle.pclntab.specs.Places.{func_count};
+    ghost use Rattle.pclntab.specs.Func.{FuncView};
+    ghost use Rattle.pclntab.specs.Ready.{IsFuncOf};
+
+    ghost Value = { FuncView };
+
+    ghost view = { λ f. record { bytes = f.bytes.now; index = f.index } };
+
+    ghost invariant = { λ f. IsFuncOf f.bytes.now f.index };
+}
+
+impl<'a> Func<'a> {
+    pub(crate) fn new(bytes: &'a [u8], index: u32) -> Self
+        requires { IsFuncOf bytes.now index }
+        ensures { result ≡ record { bytes = bytes.now; index = index } }
+    {
+        Func { bytes, index }
+    }
+
+    /// The address of its first instruction.
+    pub fn entry(&self) -> u64
+        ensures { result ≡ entry_of self.now.bytes self.now.index }
+    {
+        let bytes = self.bytes;
+        places::text_start(bytes) + u64::from(places::entry_offset(bytes, self.index))
+    }
+
+    /// The first address behind it.
+    pub fn end(&self) -> u64
+        ensures end { result ≡ end_of self.now.bytes self.now.index }
+        ensures near { result < text_start self.now.bytes + 2 ^ 32 }
+    {
+        let bytes = self.bytes;
+        places::text_start(bytes) + u64::from(places::entry_offset(bytes, self.index + 1))
+    }
+
+    /// Whether the address lies in its range.
+    pub fn has(&self, pc: u64) -> bool
+        ensures { IsTrue result ↔ HasPc self.now.bytes self.now.index pc }
+    {
+        self.entry() <= pc && pc < self.end()
+    }
+
+    /// Its name with the package's path, as `runtime.main`.
+    pub fn name(&self) -> &'a [u8]
+        ensures { name_of self.now.bytes self.now.index ≡ Some result.now }
+    {
+        let bytes = self.bytes;
+        match text_from(bytes, places::name_place(bytes, self.index)) {
+            Some(name) => name,
+            None => unreachable!(),
+        }
+    }
+
+    /// The size of its arguments and results in bytes, or -2^31 where it isn't known.
+    pub fn args(&self) -> i32
+        ensures { result ≡ args_of self.now.bytes self.now.index }
+    {
+        let bytes = self.bytes;
+        u32_at(bytes, places::record_place(bytes, self.index) + 8).cast_signed()
+    }
+
+    /// Its flags: 1 where a stack ends in it, 2 where it writes the stack pointer in a way that no table tells, 4
+    /// where it is written in assembly.
+    pub fn flags(&self) -> u8
+        ensures { result ≡ flags_of self.now.bytes self.now.index }
+    {
+        let bytes = self.bytes;
+        bytes[places::record_place(bytes, self.index) + 41]
+    }
+
+    /// The stack depth at an address in its range: by how many bytes the stack pointer is below its value at the
+    /// entry.
+    pub fn depth(&self, pc: u64) -> Answer
+        requires { HasPc self.now.bytes self.now.index pc }
+        ensures depth { result ≡ depth_at self.now.bytes self.now.index pc }
+        ensures known { result ≢ Answer.Bad }
+    {
+        let bytes = self.bytes;
+        self.look_up(places::record_place(bytes, self.index) + 16, pc)
+    }
+
+    /// The line of the source at an address in its range.
+    pub fn line(&self, pc: u64) -> Answer
+        requires { HasPc self.now.bytes self.now.index pc }
+        ensures line { result ≡ line_at self.now.bytes self.now.index pc }
+        ensures known { result ≢ Answer.Bad }
+    {
+        let bytes = self.bytes;
+        self.look_up(places::record_place(bytes, self.index) + 24, pc)
+    }
+
+    /// The name of the source file at an address in its range. `None` exactly where the table has no value there,
+    /// the value is below 0, or its word or name lies outside the bytes.
+    pub fn file(&self, pc: u64) -> Option<&'a [u8]>
+        requires { HasPc self.now.bytes self.now.index pc }
+        ensures { option_map (λ name. name.now) result ≡ file_at self.now.bytes self.now.index pc }
+    {
+        let bytes = self.bytes;
+        let record = places::record_place(bytes, self.index);
+        let Answer::Value(number) = self.look_up(record + 20, pc) else {
+            return None;
+        };
+        if number < 0 {
+            return None;
+        }
+        file_name(bytes, number as u64 + u64::from(u32_at(bytes, record + 32)))
+    }
+
+    // What the pc-value table that a field of the record names says of an address.
+    #[tactic(auto, unfolding(crate::specs::Func::answer_at))]
+    fn look_up(&self, field: usize, pc: u64) -> Answer
+        requires pc { HasPc self.now.bytes self.now.index pc }
+        requires field { field + 4 ≤ length self.now.bytes }
+        ensures answer { result ≡ answer_at self.now.bytes self.now.index field pc }
+        ensures known { NamesPcTable self.now.bytes field → result ≢ Answer.Bad }
+    {
+        let bytes = self.bytes;
+        let place = pc - self.entry();
+        prove!(pc < self.end());
+        value_at(
+            &bytes[places::pcs_start(bytes) as usize..],
+            u32_at(bytes, field),
+            bytes[6],
+            place as u32,
+        )
+    }
+}
+
+#[tactic(auto, unfolding(crate::specs::Func::file_name))]
+fn file_name(bytes: &[u8], number: u64) -> Option<&[u8]>
+    requires ready { IsReady bytes.now }
+    requires number { number < 2 ^ 33 }
+    ensures { option_map (λ name. name.now) result ≡ spec.file_name bytes.now number }
+{
+    let word = places::units_start(bytes) + 4 * number;
+    if word + 4 > bytes.len() as u64 {
+        return None;
+    }
+    let name = places::files_start(bytes) + u64::from(u32_at(bytes, word as usize));
+    text_from(bytes, name as usize)
+}
