@@ -10,7 +10,7 @@ value_after_grows base before [] positive = omega arith
 value_after_grows base before (glyph ∷ glyphs) positive =
     let one : before ≤ base * before + digit_value glyph = grows base before (digit_value glyph) positive in
     let more : base * before + digit_value glyph ≤ value_after base (base * before + digit_value glyph) glyphs
-        = value_after_grows base (base * before + digit_value glyph) glyphs positive in
+    = value_after_grows base (base * before + digit_value glyph) glyphs positive in
     omega arith
 
 -- where a digit passes 64 bits, all of them do
@@ -20,7 +20,7 @@ pub overflows : (base before i whole : ℕ) (glyphs : List ℕ) → 1 ≤ base �
     → 2 ^ 64 ≤ whole
 overflows base before i whole glyphs positive inside is large =
     let more : base * before + digit_value (get_or glyphs i 0)
-            ≤ value_after base (base * before + digit_value (get_or glyphs i 0)) (drop (suc i) glyphs)
-        = value_after_grows base (base * before + digit_value (get_or glyphs i 0)) (drop (suc i) glyphs) positive in
+    ≤ value_after base (base * before + digit_value (get_or glyphs i 0)) (drop (suc i) glyphs)
+    = value_after_grows base (base * before + digit_value (get_or glyphs i 0)) (drop (suc i) glyphs) positive in
     let split = rw (drop-cons glyphs i 0 inside) at is in
     omega (arith, split)

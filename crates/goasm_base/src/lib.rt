@@ -12,6 +12,7 @@ mod number;
 mod pos;
 mod shelf;
 mod sink;
+mod text;
 
 pub use bytes::Bytes;
 pub use list::List;
@@ -23,3 +24,4 @@ pub use number::{read_number, show_decimal, show_hex};
 pub use pos::Pos;
 pub use shelf::{Shelf, ShelfNo};
 pub use sink::{Failed, Sink};
+pub use text::Text;
