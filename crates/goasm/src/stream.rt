@@ -1,0 +1,43 @@
+ghost use Rattle.std.specs.Prelude.{None};
+
+use goasm_base::{Failed, Sink};
+use std::io::Write;
+
+/// An output stream. What it took isn't told.
+#[derive(Drop)]
+pub struct Stream<W: Write + Drop> {
+    writer: W,
+    faults: u64,
+}
+
+impl<W: Write + Drop> Stream<W> {
+    pub fn new(writer: W) -> Self {
+        Stream { writer, faults: 0 }
+    }
+}
+
+impl<W: Write + Drop> Sink for Stream<W> {
+    ghost took = { λ _. None };
+
+    ghost faults = { λ s. s.faults };
+
+    fn write(&mut self, bytes: &[u8]) -> Result<(), Failed> {
+        if write_all(&mut self.writer, bytes) {
+            return Ok(());
+        }
+        self.faults = self.faults.saturating_add(1);
+        Err(Failed)
+    }
+}
+
+// Whether all of the bytes were written. A write that takes nothing of a piece has failed.
+fn write_all<W: Write>(writer: &mut W, bytes: &[u8]) -> bool {
+    let mut rest = bytes;
+    while !rest.is_empty() {
+        match writer.write(rest) {
+            Ok(0) | Err(_) => return false,
+            Ok(count) => rest = &rest[count..],
+        }
+    }
+    writer.flush().is_ok()
+}

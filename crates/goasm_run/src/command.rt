@@ -1,0 +1,22 @@
+ghost use Rattle.std.specs.Prelude.{◌≡◌};
+ghost use Rattle.goasm_run.specs.Commands.{command_of};
+
+/// The commands, by their first word.
+#[derive(Clone, Copy, Debug, PartialEq, Eq)]
+pub enum Command {
+    /// `lookup TABLE PC`
+    Lookup,
+}
+
+impl Command {
+    /// The command that a word names.
+    #[tactic(auto, unfolding(crate::specs::Commands::command_of))]
+    pub fn named(word: &[u8]) -> Option<Command>
+        ensures { result ≡ command_of word.now }
+    {
+        if word == b"lookup".as_slice() {
+            return Some(Command::Lookup);
+        }
+        None
+    }
+}

@@ -1,0 +1,25 @@
+use goasm_base::{Bytes, Memory};
+
+/// Why a command ends without a text.
+#[derive(Debug, Drop)]
+pub enum Stop {
+    /// The input meets a refusal, whose line this is.
+    Refused(Bytes),
+    /// The words have no command's form.
+    Words,
+    /// Memory is wanting.
+    Memory,
+    /// The file of this name couldn't be read.
+    Unread(Bytes),
+}
+
+impl From<Memory> for Stop {
+    ghost use Rattle.std.specs.Prelude.{◌≡◌};
+    ghost use Rattle.goasm_run.specs.declared.stop.Stop.TheVariants.{Memory as OutOfMemory};
+
+    ghost from_gives = { λ _ stop. stop ≡ OutOfMemory };
+
+    fn from(_: Memory) -> Self {
+        Stop::Memory
+    }
+}
