@@ -22,10 +22,10 @@ unfolding first_below
 below_found index zero fault_at fault inside before here = absurd (omega arith)
 below_found index (suc count) fault_at fault inside before here =
     elim (cases_lt index count) [
-        inl earlier ↦ rw (below_found index count fault_at fault earlier before here) refl
-    |   inr last ↦
-            let same : count ≡ index = omega arith in
-            rw (same, before) here
+      | inl earlier ↦ rw (below_found index count fault_at fault earlier before here) refl
+      | inr last ↦
+          let same : count ≡ index = omega arith in
+          rw (same, before) here
     ]
 
 pub passing_zero : (test : ℕ → Bool) → first_passing 0 test ≡ None
@@ -43,8 +43,8 @@ unfolding first_passing
 passing_found index zero test inside before here = absurd (omega arith)
 passing_found index (suc count) test inside before here =
     elim (cases_lt index count) [
-        inl earlier ↦ rw (passing_found index count test earlier before here) refl
-    |   inr last ↦
-            let same : count ≡ index = omega arith in
-            rw (same, before, here) refl
+      | inl earlier ↦ rw (passing_found index count test earlier before here) refl
+      | inr last ↦
+          let same : count ≡ index = omega arith in
+          rw (same, before, here) refl
     ]

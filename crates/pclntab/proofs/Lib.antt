@@ -1,3 +1,4 @@
 mod BelowLemmas
 mod TextLemmas
 mod PcLemmas
+mod RangeLemmas

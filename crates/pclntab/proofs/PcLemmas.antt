@@ -15,8 +15,8 @@ zeros count = replicate count 0
 zero_there : (count index : ℕ) → slice_index (zeros count) index ≡ 0
 zero_there count index =
     elim (cases_lt index count) [
-        inl inside ↦ get_or-replicate count index 0 0 inside
-    |   inr past ↦ get_or-eq_default (zeros count) 0 (rw (length-replicate {A = ℕ} count 0) past)
+      | inl inside ↦ get_or-replicate count index 0 0 inside
+      | inr past ↦ get_or-eq_default (zeros count) 0 (rw (length-replicate {A = ℕ} count 0) past)
     ]
 
 -- no offset is kept at first

@@ -28,8 +28,8 @@ stops test (x ∷ xs) zero inside fails = rw fails (omega arith)
 stops test (x ∷ xs) (suc i) inside fails =
     let later : prefix_len test xs < length xs = stops test xs i (omega arith) fails in
     elim (test x) as (λ passes. cond passes (1 + prefix_len test xs) 0 < suc (length xs)) [
-        true ↦ omega arith
-    |   false ↦ omega arith
+      | true ↦ omega arith
+      | false ↦ omega arith
     ]
 
 position_there : (xs : List ℕ) (i : ℕ)
@@ -37,7 +37,7 @@ position_there : (xs : List ℕ) (i : ℕ)
 position_there xs i inside here =
     let fails : not (is_zero (get_or xs i 0)) ≡ false = ap not here in
     let within : nat_lt (prefix_len (λ x. not (is_zero x)) xs) (length xs) ≡ true
-        = lt-ltb _ _ (stops (λ x. not (is_zero x)) xs i inside fails) in
+    = lt-ltb _ _ (stops (λ x. not (is_zero x)) xs i inside fails) in
     rw within refl
 
 -- a text ends where a zero byte stands behind its beginning
@@ -47,7 +47,7 @@ ends_before bytes at last before within here =
     let inside : last - at < length (drop at bytes) = omega (arith, length-drop at bytes) in
     let place : at + (last - at) ≡ last = omega arith in
     let there : is_zero (get_or (drop at bytes) (last - at) 0) ≡ true
-        = rw (get_or-drop at bytes (last - at) 0, place) here in
+    = rw (get_or-drop at bytes (last - at) 0, place) here in
     ends_in (drop at bytes) ∙ position_there (drop at bytes) (last - at) inside there
 
 -- and nowhere else
@@ -58,20 +58,20 @@ zero_behind bytes at ends =
     let facts = position-Some is_zero (drop at bytes) found.0 0 found.1 in
     let inside : found.0 < length (drop at bytes) = facts.0 in
     let here : is_zero (slice_index bytes (at + found.0)) ≡ true
-        = rw (get_or-drop at bytes found.0 0) at facts.1 in
+    = rw (get_or-drop at bytes found.0 0) at facts.1 in
     (at + found.0, omega arith, omega (arith, length-drop at bytes), here)
 
 -- the last zero byte tells whether a text ends
 pub ends_till : (bytes : List ℕ) (at last : ℕ) → IsLastByte (is_byte 0) bytes (Some last)
     → (at ≤ last → IsTrue (ends_at bytes at)) × (IsTrue (ends_at bytes at) → at ≤ last)
 ends_till bytes at last is = (
-    λ before. ends_before bytes at last before is.0.high is.1,
-    λ ends. elim (cases_lt last at) [
-        inl past ↦
-            let found = zero_behind bytes at ends in
-            absurd (is.0.after found.0 (omega arith) found.2 found.3)
-    |   inr before ↦ before
-    ],
+  λ before. ends_before bytes at last before is.0.high is.1,
+  λ ends. elim (cases_lt last at) [
+    | inl past ↦
+        let found = zero_behind bytes at ends in
+        absurd (is.0.after found.0 (omega arith) found.2 found.3)
+    | inr before ↦ before
+  ],
 )
 
 pub never_ends : (bytes : List ℕ) (at : ℕ) → IsLastByte (is_byte 0) bytes None → IsTrue (ends_at bytes at) → ⊥

@@ -1,9 +1,9 @@
-ghost use Rattle.std.specs.Prelude.{◌≡◌, ℕ, ◌^◌, ◌<◌, length, IfOk, IfSome, IfNone, MatchResult};
+ghost use Rattle.std.specs.Prelude.{◌≡◌, ℕ, ◌^◌, ◌<◌, ◌≤◌, length, IfOk, IfSome, IfNone, MatchResult};
 ghost use Rattle.std.specs.Option.{option_map};
 ghost use Rattle.pclntab.specs.Places.{func_count};
 ghost use Rattle.pclntab.specs.Table.{IsTable};
 ghost use Rattle.pclntab.specs.Faults.{Judges, table_fault};
-ghost use Rattle.pclntab.specs.Func.{HasPc, func_at};
+ghost use Rattle.pclntab.specs.Func.{HasPc, entry_of, func_at};
 
 use crate::fault::TableNo;
 use crate::func::Func;
@@ -57,10 +57,24 @@ impl<'a> Table<'a> {
     }
 
     /// The function whose range has the address. `None` exactly where no range has it.
-    #[tactic(auto, unfolding(crate::specs::Func::func_at), using(crate::proofs::BelowLemmas::passing_zero, crate::proofs::BelowLemmas::passing_next, crate::proofs::BelowLemmas::passing_found))]
     pub fn find(&self, pc: u64) -> Option<Func<'a>>
         ensures exact { result ≡ option_map (λ index. record { bytes = self.now; index = index }) (func_at self.now pc) }
         ensures some { IfSome result (λ func. HasPc self.now func.index pc) }
+        ensures none { IfNone result ((index : ℕ) → index < func_count self.now → HasPc self.now index pc → ⊥) }
+
+        // The ranges don't overlap, and cover the text from the first entry to the end of the last function.
+        ensures one { IfSome result (λ func. (index : ℕ) → index < func_count self.now → HasPc self.now index pc
+            → index ≡ func.index) }
+        ensures covered { IfNone result (entry_of self.now 0 ≤ pc → entry_of self.now (func_count self.now) ≤ pc) }
+    {
+        let _ = &self.bytes;
+        self.scan(pc)
+    }
+
+    #[tactic(auto, unfolding(crate::specs::Func::func_at), using(crate::proofs::BelowLemmas::passing_zero, crate::proofs::BelowLemmas::passing_next, crate::proofs::BelowLemmas::passing_found))]
+    fn scan(&self, pc: u64) -> Option<Func<'a>>
+        ensures exact { result ≡ option_map (λ index. record { bytes = self.now; index = index }) (func_at self.now pc) }
+        ensures some { IfSome result (λ func. (func.index < func_count self.now) × HasPc self.now func.index pc) }
         ensures none { IfNone result ((index : ℕ) → index < func_count self.now → HasPc self.now index pc → ⊥) }
     {
         for index in 0..self.count() {

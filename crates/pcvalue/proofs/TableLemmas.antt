@@ -43,18 +43,18 @@ known_in table offset quantum place =
       | false ↦ λ whole. whole_answers place (runs_at table offset quantum) whole
     ]
 
-or_fault_another : (read : Option (ℕ × List ℕ)) (next : ℕ × List ℕ → Reading) (point : Point)
+pub or_fault_another : (read : Option (ℕ × List ℕ)) (next : ℕ × List ℕ → Reading) (point : Point)
     → or_fault read next ≡ Another point
     → (found : ℕ × List ℕ) × (next found ≡ Another point)
 or_fault_another (Some found) next point is = (found, is)
 or_fault_another None next point is = cc
 
-guarded : (test : Bool) (found point : Point)
+pub guarded : (test : Bool) (found point : Point)
     → (if test then Another found else Fault) ≡ Another point → (test ≡ true) × (found ≡ point)
 guarded true found point is = (refl, cc)
 guarded false found point is = cc
 
-unfinished : (test : Bool) (reading : Reading) (point : Point)
+pub unfinished : (test : Bool) (reading : Reading) (point : Point)
     → (if test then Finished else reading) ≡ Another point → reading ≡ Another point
 unfinished true reading point is = cc
 unfinished false reading point is = is
@@ -72,9 +72,10 @@ over_ends : (quantum : ℕ) (from : Point) (code : ℕ) (quanta : ℕ × List �
 unfolding run_over EndsBelow
 over_ends quantum from code quanta point is =
     let kept = guarded (fits_i32 (from.run.value +ℤ zigzag code) && nat_lt (from.run.end + quanta.0 * quantum) (2 ^ 32)) _ point is in
-    let fits : nat_lt (from.run.end + quanta.0 * quantum) (2 ^ 32) ≡ true = second _ _ kept.0 in
+    let fits : nat_lt (from.run.end + quanta.0 * quantum) (2 ^ 32) ≡ true
+    = second (fits_i32 (from.run.value +ℤ zigzag code)) (nat_lt (from.run.end + quanta.0 * quantum) (2 ^ 32)) kept.0 in
     let ended : from.run.end + quanta.0 * quantum ≡ point.run.end = ap (λ p. p.run.end) kept.1 in
-    let below : from.run.end + quanta.0 * quantum < 2 ^ 32 = ltb-true _ _ fits in
+    let below : from.run.end + quanta.0 * quantum < 2 ^ 32 = ltb-true (from.run.end + quanta.0 * quantum) (2 ^ 32) fits in
     omega arith
 
 by_ends : (quantum : ℕ) (first : Bool) (from : Point) (code : ℕ × List ℕ) (point : Point)

@@ -1,5 +1,5 @@
 -- What the pc-value table at an offset says of a place. The offset 0 means that there is no table.
-use Rattle.std.specs.Prelude.{ℕ, Bool, true, List, [], ◌∷◌, ◌==◌, nat_lt, drop, IsTrue, if◌then◌else◌}
+use Rattle.std.specs.Prelude.{◌≡◌, ◌⊎◌, ◌<◌, ◌≤◌, ℕ, ℤ, Bool, true, List, [], ◌∷◌, ◌==◌, nat_lt, drop, IsTrue, if◌then◌else◌}
 use Rattle.pcvalue.specs.declared.run.Run.{Run}
 use Rattle.pcvalue.specs.declared.answer.Answer.{Answer}
 use Rattle.pcvalue.specs.declared.answer.Answer.TheVariants.{Absent, Value, Past, Bad}
@@ -29,3 +29,10 @@ is_pc_table table offset quantum = if offset == 0 then true else (runs_at table 
 
 abbrev pub IsPcTable : List ℕ → ℕ → ℕ → Type 0
 IsPcTable table offset quantum = IsTrue (is_pc_table table offset quantum)
+
+-- Of runs that follow a place, the one that has a later place keeps this value there: it begins where the run before it
+-- ends, at or before the place, and ends behind it.
+abbrev pub HasValue : ℕ → List Run → ℕ → ℤ → Type 0
+HasValue from [] place value = ⊥
+HasValue from (run ∷ runs) place value =
+    ((from ≤ place) × (place < run.end) × (run.value ≡ value)) ⊎ HasValue run.end runs place value

@@ -1,6 +1,6 @@
-ghost use Rattle.std.specs.Prelude.{◌≡◌, ◌≢◌, ◌-◌, ◌<◌, ◌↔◌, length, drop, IsTrue};
+ghost use Rattle.std.specs.Prelude.{◌≡◌, ◌≢◌, ℤ, ◌-◌, ◌<◌, ◌↔◌, length, drop, IsTrue};
 ghost use Rattle.pcvalue.specs.Runs.{runs_of};
-ghost use Rattle.pcvalue.specs.Table.{value_in, IsPcTable, answer_of};
+ghost use Rattle.pcvalue.specs.Table.{runs_at, value_in, IsPcTable, HasValue, answer_of};
 
 use crate::answer::Answer;
 use crate::run::Run;
@@ -10,10 +10,14 @@ use crate::step::{Cursor, Step, next_run};
 ///
 /// The place counts bytes from the function's entry. The quantum is the size in bytes of the steps by which
 /// the table counts places: 1 on amd64, 4 on arm64 and riscv64. The offset 0 means that there is no table.
-#[tactic(auto, using(crate::proofs::TableLemmas::known_in))]
+#[tactic(auto, using(crate::proofs::TableLemmas::known_in, crate::proofs::ValueLemmas::value_has, crate::proofs::ValueLemmas::has_value))]
 pub fn value_at(table: &[u8], offset: u32, quantum: u8, place: u32) -> Answer
     ensures value { result ≡ value_in table.now offset quantum place }
     ensures known { IsPcTable table.now offset quantum → result ≢ Answer.Bad }
+
+    // A value is that of the one run that has the place.
+    ensures run { (v : ℤ) → 0 < offset
+        → (result ≡ Answer.Value v) ↔ HasValue 0 (runs_at table.now offset quantum).runs place v }
 {
     look_up(table, offset, quantum, place)
 }

@@ -8,5 +8,5 @@ abbrev pub invariant-loop-index : goal.invariant-loop-index
 invariant-loop-index l = record {
   none : first_below l.index (func_fault l.bytes) ≡ None;
   good : (index : ℕ) → index < l.index → IsFunc l.bytes index;
-  tables : l.tables ≡ record { bytes = pc_bytes l.bytes; quantum = quantum l.bytes }
+  tables : l.tables ≡ record { bytes = pc_bytes l.bytes; quantum = quantum l.bytes };
 }

@@ -6,5 +6,5 @@ use Rattle.pclntab.proofs.judge.judge_order.Given as goal
 abbrev pub invariant-loop-index : goal.invariant-loop-index
 invariant-loop-index l = record {
   none : first_below l.index (entry_fault l.bytes) ≡ None;
-  rising : (index : ℕ) → index < l.index → entry_offset l.bytes index ≤ entry_offset l.bytes (index + 1)
+  rising : (index : ℕ) → index < l.index → entry_offset l.bytes index ≤ entry_offset l.bytes (index + 1);
 }
