@@ -12,6 +12,8 @@ mod number;
 mod pos;
 mod shelf;
 mod sink;
+#[cfg(test)]
+mod tests;
 mod text;
 
 pub use bytes::Bytes;

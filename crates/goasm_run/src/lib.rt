@@ -8,6 +8,8 @@ mod limits;
 mod lines;
 mod read;
 mod stop;
+#[cfg(test)]
+mod tests;
 mod top;
 mod words;
 

@@ -9,6 +9,8 @@ mod names;
 mod pc_tables;
 mod places;
 mod table;
+#[cfg(test)]
+mod tests;
 mod words;
 
 pub use fault::TableNo;

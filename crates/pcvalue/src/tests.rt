@@ -1,0 +1,68 @@
+use super::*;
+
+// No table at 0, then the depths and the lines of a function of 23 bytes.
+const TABLES: [u8; 17] = [0, 2, 23, 0, 8, 5, 2, 4, 2, 4, 4, 4, 2, 5, 2, 1, 0];
+
+#[test]
+fn places_have_the_values_of_their_runs(rt: HostRuntime) {
+    for (offset, place, want) in [
+        (0, 0, Answer::Absent),
+        (1, 0, Answer::Value(0)),
+        (1, 22, Answer::Value(0)),
+        (1, 23, Answer::Past),
+        (4, 0, Answer::Value(3)),
+        (4, 4, Answer::Value(3)),
+        (4, 5, Answer::Value(4)),
+        (4, 17, Answer::Value(8)),
+        (4, 22, Answer::Value(9)),
+        (4, 23, Answer::Past),
+        (3, 0, Answer::Value(-1)),
+        (16, 0, Answer::Bad),
+        (17, 0, Answer::Bad),
+        (u32::MAX, 0, Answer::Bad),
+    ] {
+        assert_eq!(rt;
+            value_at(&TABLES, offset, 1, place),
+            want,
+            "{offset} {place}"
+        );
+    }
+    assert_eq!(rt; value_at(&TABLES, 4, 4, 19), Answer::Value(3));
+    assert_eq!(rt; value_at(&TABLES, 4, 4, 20), Answer::Value(4));
+}
+
+#[test]
+fn numbers_have_five_bytes_and_32_bits(rt: HostRuntime) {
+    for (table, want) in [
+        ([2, 0x80, 0x80, 0x80, 0x80, 0x0F, 0], Answer::Value(0)),
+        ([2, 0x80, 0x80, 0x80, 0x80, 0x10, 0], Answer::Bad),
+        ([2, 0x80, 0x80, 0x80, 0x80, 0x80, 0], Answer::Bad),
+        ([2, 0x80, 0x80, 0x80, 0x80, 0x80, 0x80], Answer::Bad),
+        ([0xFF, 0xFF, 0xFF, 0xFF, 0x0F, 1, 0], Answer::Bad),
+        (
+            [0xFE, 0xFF, 0xFF, 0xFF, 0x0F, 1, 0],
+            Answer::Value(i32::MAX - 1),
+        ),
+    ] {
+        let mut bytes = [0; 8];
+        bytes[1..].copy_from_slice(&table);
+        assert_eq!(rt; value_at(&bytes, 1, 1, 0), want, "{table:?}");
+    }
+}
+
+#[test]
+fn tables_are_whole_up_to_their_end(rt: HostRuntime) {
+    for (offset, want) in [
+        (0, true),
+        (1, true),
+        (4, true),
+        (15, false),
+        (16, false),
+        (99, false),
+    ] {
+        assert_eq!(rt; is_pc_table(&TABLES, offset, 1), want, "{offset}");
+    }
+    // A run that passes 2^32 - 1.
+    assert!(rt; !is_pc_table(&[0, 2, 0xFF, 0xFF, 0xFF, 0xFF, 0x0F, 2, 1, 0], 1, 1));
+    assert!(rt; is_pc_table(&[0, 2, 0xFF, 0xFF, 0xFF, 0xFF, 0x0F, 0], 1, 1));
+}
