@@ -1,5 +1,6 @@
 #!/usr/bin/env python3
 """An independent reading of the Go 1.20 function table, for expected lines."""
+import os
 import struct
 def u32(b,o): return struct.unpack_from('<I',b,o)[0]
 def u64(b,o): return struct.unpack_from('<Q',b,o)[0]
@@ -82,3 +83,25 @@ def lookup(name, b, pc):
                     except Bad: pass
             return 0, text(b,u64(b,32)+u32(b,rec+4)).decode('latin1') + ' ' + fname.decode('latin1') + ':' + show(get(24)) + ' depth ' + show(get(16)) + '\n'
     return 1, f'{name}: no function at 0x{pc:016x}\n'
+
+
+def digest(answers):
+    """FNV-1a of 32 bits over statuses and lines."""
+    h = 2166136261
+    for status, line in answers:
+        for byte in bytes([status]) + line.encode('latin1'):
+            h = (h ^ byte) * 16777619 & 0xFFFFFFFF
+    return h
+
+
+def main():
+    """Prints the digests that the test of damaged bytes compares with."""
+    with open(os.path.join(os.path.dirname(os.path.realpath(__file__)), 'damaged', 'cas.tab'), 'rb') as file:
+        cas = file.read()
+    for at in range(len(cas)):
+        tables = [cas[:at] + bytes([value]) + cas[at + 1:] for value in (0, 1, 0x7F, 0x80, 0xFF)]
+        print(f'0x{digest(lookup("cas.tab", table, 0x400011) for table in tables):08x},', end='\n' if at % 8 == 7 else ' ')
+
+
+if __name__ == '__main__':
+    main()
