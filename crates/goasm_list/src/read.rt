@@ -1,0 +1,31 @@
+ghost use Rattle.std.specs.Prelude.{◌≡◌, ◌^◌, ◌<◌, length, IfOk};
+ghost use Rattle.goasm_list.specs.Lists.{Judges, refused_line, list_of};
+
+use crate::fault::ListNo;
+use crate::line::BuildList;
+use crate::reader::Reader;
+use crate::words::split_at_first;
+use goasm_base::List;
+use std::alloc::Global;
+
+/// Reads a build list. It is refused exactly where one of its lines is, with the number of the first such line,
+/// unless memory is wanting. A line is refused where it has no form, stands for a Go file, is a second `entry`,
+/// gives an outside name that an earlier line gives, or is the 1,001st that names a file.
+pub fn read_list(alloc: Global, bytes: &[u8]) -> Result<BuildList, ListNo>
+    requires { length bytes.now < 2 ^ 32 }
+    ensures exact { Judges result (refused_line bytes.now) }
+    ensures lines { IfOk result (λ list. list.lines ≡ list_of bytes.now) }
+{
+    let mut reader = Reader::new(alloc);
+    let mut rest = bytes;
+    let mut number: u32 = 0;
+    while !rest.is_empty() {
+        let (text, behind) = split_at_first(b'\n', rest);
+        number += 1;
+        reader = reader.read(alloc, number, text)?;
+        rest = behind;
+    }
+    Ok(BuildList {
+        lines: List::new(reader.finish()),
+    })
+}
