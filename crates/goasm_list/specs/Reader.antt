@@ -2,8 +2,9 @@
 use Rattle.std.specs.Prelude.{◌≡◌, ℕ, Bool, List, ◌≤◌, ◌++◌, Result, Ok, Err, false, true}
 use Rattle.std.specs.Borrow.{Bor}
 use Rattle.std.specs.Cmp.Lexicographic.{slice_cmp}
+use Rattle.std.specs.declared.cmp.Ordering.{Ordering}
 use Rattle.std.specs.Ordering.{nat_cmp}
-use Rattle.std.specs.BTreeSet.{BTreeSet, contains_by}
+use Rattle.std.specs.BTreeSet.{BTreeSet, contains}
 use Rattle.goasm_list.specs.declared.line.ListLine.{ListLine}
 use Rattle.goasm_list.specs.declared.fault.ListNo.{ListNo}
 use Rattle.goasm_list.specs.declared.fault.ListNo.TheVariants.{Q1, Memory}
@@ -11,9 +12,13 @@ use Rattle.goasm_list.specs.Form.{Form}
 use Rattle.goasm_list.specs.Rules.{most_files, file_count, has_outside, has_entry, refuses}
 use Rattle.goasm_list.specs.Lists.{line_in}
 
+-- the order of names that stand in the list's bytes
+abbrev pub by_bytes : Bor (List ℕ) → Bor (List ℕ) → Ordering
+by_bytes a b = slice_cmp nat_cmp a.now b.now
+
 -- the outside names, the number of files, and whether there is an entry
 pub record Keeps (lines : List ListLine) (outside : BTreeSet (Bor (List ℕ))) (files : ℕ) (entry : Bool) : Type 0 where
-  pub names : (name : List ℕ) → contains_by (λ key. slice_cmp nat_cmp name key.now) outside ≡ has_outside lines name
+  pub names : (name : Bor (List ℕ)) → contains by_bytes outside name ≡ has_outside lines name.now
   pub count : files ≡ file_count lines
   pub room : files ≤ most_files
   pub entered : entry ≡ has_entry lines

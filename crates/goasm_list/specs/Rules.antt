@@ -4,7 +4,7 @@ use Rattle.std.specs.List.{list_any}
 use Rattle.goasm_list.specs.declared.line.LineKind.{LineKind}
 use Rattle.goasm_list.specs.declared.line.LineKind.TheVariants.{Asm, Stub, Include, Define, Outside, Entry}
 use Rattle.goasm_list.specs.declared.line.ListLine.{ListLine}
-use Rattle.goasm_list.specs.Form.{Parts, Form, Skipped, Line, Faulty}
+use Rattle.goasm_list.specs.Form.{Form, Skipped, Line, Faulty}
 
 -- how many files a list may name
 abbrev pub most_files : ℕ
@@ -41,7 +41,7 @@ file_count lines = count_by (λ line. names_file line.kind) lines
 
 -- one of these lines gives this outside name
 abbrev pub has_outside : List ListLine → List ℕ → Bool
-has_outside lines name = list_any (λ line. is_outside line.kind && bytes_eq name line.name) lines
+has_outside lines name = list_any (λ line. is_outside line.kind && bytes_eq line.name name) lines
 
 abbrev pub has_entry : List ListLine → Bool
 has_entry lines = list_any (λ line. is_entry line.kind) lines

@@ -55,7 +55,7 @@ impl<'a> Reader<'a> {
 
     /// Reads the next line.
     pub fn read(self, alloc: Global, number: u32, text: &'a [u8]) -> Result<Self, ListNo>
-        ensures { Follows result self number (form_of text.now) }
+        ensures { Follows result self.entry number (form_of text.now) }
     {
         match read_text(text) {
             Reading::Skipped => Ok(self),
@@ -70,7 +70,7 @@ impl<'a> Reader<'a> {
     }
 
     pub fn finish(self) -> Vec<ListLine>
-        ensures { result.items ≡ self }
+        ensures { result.items ≡ self.entry }
     {
         self.lines
     }
@@ -90,7 +90,7 @@ impl<'a> Reader<'a> {
     // The same reader with one more line.
     fn with(self, alloc: Global, number: u32, draft: &Draft<'a>) -> Result<Self, AllocError>
         requires { is_excess self draft.now.kind draft.now.name.now ≡ false }
-        ensures { IfOk result (λ reader. reader ≡ self ++ line_of number (parts_in draft.now) ∷ []) }
+        ensures { IfOk result (λ reader. reader ≡ self.entry ++ line_of number (parts_in draft.now) ∷ []) }
     {
         let Reader {
             mut lines,
