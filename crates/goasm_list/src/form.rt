@@ -1,8 +1,10 @@
-ghost use Rattle.std.specs.Prelude.{◌≡◌};
+ghost use Rattle.std.specs.Prelude.{◌≡◌, IfSome, IsTrue};
 ghost use Rattle.std.specs.Option.{option_map};
 ghost use Rattle.std.specs.Str.{is_utf8};
 ghost use Rattle.goasm_list.specs.Form as spec;
 ghost use Rattle.goasm_list.specs.Form.{file_parts, define_parts, outside_parts, outside_at, entry_parts, parts_of, worded_form, form_of};
+ghost use Rattle.goasm_list.specs.Rules.{names_file};
+ghost use Rattle.goasm_list.specs.Sound.{IsWhole, IsWholeForm};
 ghost use Rattle.goasm_list.specs.Views.{parts_in, form_in};
 
 use crate::line::LineKind;
@@ -32,7 +34,8 @@ pub enum Reading<'a> {
 /// Reads the text of a line.
 #[tactic(auto, unfolding(crate::specs::Form::form_of))]
 pub fn read_text(text: &[u8]) -> Reading<'_>
-    ensures { form_in result ≡ form_of text.now }
+    ensures form { form_in result ≡ form_of text.now }
+    ensures whole { IsWholeForm (form_in result) }
 {
     if !is_utf8(text) {
         return Reading::Faulty;
@@ -48,7 +51,8 @@ pub fn read_text(text: &[u8]) -> Reading<'_>
 
 #[tactic(auto, unfolding(crate::specs::Form::worded_form))]
 fn read_words(text: &[u8]) -> Reading<'_>
-    ensures { form_in result ≡ worded_form text.now }
+    ensures form { form_in result ≡ worded_form text.now }
+    ensures whole { IsWholeForm (form_in result) }
 {
     let (word, rest) = split_word(text);
     if word.is_empty() {
@@ -86,7 +90,8 @@ fn kind_of(word: &[u8]) -> Option<LineKind>
 
 #[tactic(auto, unfolding(crate::specs::Form::parts_of))]
 fn draft_of(kind: LineKind, text: &[u8]) -> Option<Draft<'_>>
-    ensures { option_map parts_in result ≡ parts_of kind text.now }
+    ensures parts { option_map parts_in result ≡ parts_of kind text.now }
+    ensures whole { IfSome result (λ draft. IsWhole (parts_in draft)) }
 {
     match kind {
         LineKind::Asm | LineKind::Stub | LineKind::Include => file_draft(kind, text),
@@ -98,7 +103,9 @@ fn draft_of(kind: LineKind, text: &[u8]) -> Option<Draft<'_>>
 
 #[tactic(auto, unfolding(crate::specs::Form::file_parts))]
 fn file_draft(kind: LineKind, text: &[u8]) -> Option<Draft<'_>>
-    ensures { option_map parts_in result ≡ file_parts kind text.now }
+    requires { IsTrue (names_file kind) }
+    ensures parts { option_map parts_in result ≡ file_parts kind text.now }
+    ensures whole { IfSome result (λ draft. IsWhole (parts_in draft)) }
 {
     let (name, behind) = split_word(text);
     if name.is_empty() || !behind.is_empty() {
@@ -114,7 +121,8 @@ fn file_draft(kind: LineKind, text: &[u8]) -> Option<Draft<'_>>
 
 #[tactic(auto, unfolding(crate::specs::Form::define_parts))]
 fn define_draft(text: &[u8]) -> Option<Draft<'_>>
-    ensures { option_map parts_in result ≡ define_parts text.now }
+    ensures parts { option_map parts_in result ≡ define_parts text.now }
+    ensures whole { IfSome result (λ draft. IsWhole (parts_in draft)) }
 {
     let (name, rest) = split_word(text);
     if name.is_empty() {
@@ -130,7 +138,8 @@ fn define_draft(text: &[u8]) -> Option<Draft<'_>>
 
 #[tactic(auto, unfolding(crate::specs::Form::outside_parts))]
 fn outside_draft(text: &[u8]) -> Option<Draft<'_>>
-    ensures { option_map parts_in result ≡ outside_parts text.now }
+    ensures parts { option_map parts_in result ≡ outside_parts text.now }
+    ensures whole { IfSome result (λ draft. IsWhole (parts_in draft)) }
 {
     let (name, behind) = split_word(text);
     let (address, behind) = split_word(behind);
@@ -142,7 +151,8 @@ fn outside_draft(text: &[u8]) -> Option<Draft<'_>>
 
 #[tactic(auto, unfolding(crate::specs::Form::outside_at))]
 fn outside_from(name: &[u8], at: u64) -> Option<Draft<'_>>
-    ensures { option_map parts_in result ≡ outside_at name.now at }
+    ensures parts { option_map parts_in result ≡ outside_at name.now at }
+    ensures whole { IfSome result (λ draft. IsWhole (parts_in draft)) }
 {
     if !is_symbol(name) || !is_outside_address(at) {
         return None;
@@ -157,7 +167,8 @@ fn outside_from(name: &[u8], at: u64) -> Option<Draft<'_>>
 
 #[tactic(auto, unfolding(crate::specs::Form::entry_parts))]
 fn entry_draft(text: &[u8]) -> Option<Draft<'_>>
-    ensures { option_map parts_in result ≡ entry_parts text.now }
+    ensures parts { option_map parts_in result ≡ entry_parts text.now }
+    ensures whole { IfSome result (λ draft. IsWhole (parts_in draft)) }
 {
     let (name, behind) = split_word(text);
     if !is_symbol(name) || !behind.is_empty() {

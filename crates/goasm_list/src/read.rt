@@ -1,4 +1,5 @@
 ghost use Rattle.std.specs.Prelude.{◌≡◌, ◌^◌, ◌<◌, length, IfOk};
+ghost use Rattle.goasm_list.specs.Sound.{IsSound};
 ghost use Rattle.goasm_list.specs.Lists.{Judges, refused_line, list_of};
 
 use crate::fault::ListNo;
@@ -15,6 +16,7 @@ pub fn read_list(alloc: Global, bytes: &[u8]) -> Result<BuildList, ListNo>
     requires { length bytes.now < 2 ^ 32 }
     ensures exact { Judges result (refused_line bytes.now) }
     ensures lines { IfOk result (λ list. list.lines ≡ list_of bytes.now) }
+    ensures sound { IfOk result (λ list. IsSound list.lines) }
 {
     let mut reader = Reader::new(alloc);
     let mut rest = bytes;

@@ -2,6 +2,7 @@ ghost use Rattle.std.specs.Prelude.{◌≡◌, [], ◌∷◌, ◌++◌, false, I
 ghost use Rattle.goasm_list.specs.Form.{form_of};
 ghost use Rattle.goasm_list.specs.Rules as rules_of;
 ghost use Rattle.goasm_list.specs.Rules.{is_excess, most_files, names_file};
+ghost use Rattle.goasm_list.specs.Sound.{IsWhole, IsSound};
 ghost use Rattle.goasm_list.specs.Lists.{line_of};
 ghost use Rattle.goasm_list.specs.Views.{parts_in};
 ghost use Rattle.goasm_list.specs.Reader.{Follows};
@@ -70,7 +71,8 @@ impl<'a> Reader<'a> {
     }
 
     pub fn finish(self) -> Vec<ListLine>
-        ensures { result.items ≡ self.entry }
+        ensures lines { result.items ≡ self.entry }
+        ensures sound { IsSound self.entry }
     {
         self.lines
     }
@@ -89,7 +91,8 @@ impl<'a> Reader<'a> {
 
     // The same reader with one more line.
     fn with(self, alloc: Global, number: u32, draft: &Draft<'a>) -> Result<Self, AllocError>
-        requires { is_excess self draft.now.kind draft.now.name.now ≡ false }
+        requires room { is_excess self draft.now.kind draft.now.name.now ≡ false }
+        requires whole { IsWhole (parts_in draft.now) }
         ensures { IfOk result (λ reader. reader ≡ self.entry ++ line_of number (parts_in draft.now) ∷ []) }
     {
         let Reader {

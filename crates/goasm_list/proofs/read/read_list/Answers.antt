@@ -28,4 +28,4 @@ returns-clause-exact c =
 pub returns-clause-lines : goal.returns-clause-lines
 returns-clause-lines c =
     let all : length c.loop-rest.rest.now ≡ 0 = grind (arith, nat_tests) in
-    rw (c.new.ensures, c.finish.ensures) ((reached_all _ _ _ _ c.loop-rest.invariant all).1)
+    rw (c.new.ensures, c.finish.ensures.lines) ((reached_all _ _ _ _ c.loop-rest.invariant all).1)
