@@ -31,7 +31,7 @@ none_at : (test : ListLine → Bool) (lines : List ListLine) (k : ℕ) (d : List
     → list_any test lines ≡ false → test (get_or lines k d) ≡ false
 none_at test lines k d inside none =
     false_from_ne_true (test (get_or lines k d)) (λ yes.
-        let some : list_any test lines ≡ true = list_any_at test lines k d inside yes in cc)
+    let some : list_any test lines ≡ true = list_any_at test lines k d inside yes in cc)
 
 no_clash : (lines : List ListLine) (kind : LineKind) (name : List ℕ) (k : ℕ) (d : ListLine) → k < length lines
     → is_excess lines kind name ≡ false → clashes (get_or lines k d) kind name ≡ false

@@ -1,4 +1,4 @@
--- What `outside` and `entry` lines may name and where outside code may lie.
+-- What `outside` and `entry` lines may name, and where what lies outside an image may lie.
 use Rattle.std.specs.Prelude.{ℕ, Bool, false, List, [], ◌∷◌, ◌%◌, ◌==◌, ◌&&◌, ◌||◌, nat_le}
 use Rattle.std.specs.List.{list_all}
 
@@ -21,6 +21,6 @@ unfoldable pub is_symbol : List ℕ → Bool
 is_symbol [] = false
 is_symbol (byte ∷ bytes) = opens_symbol byte && list_all continues_symbol bytes
 
--- a multiple of 4 from 0x1000 to 0x3FFFFC: below the text of every image
+-- a multiple of 4 from 0x1000 to 0x3FFFFC
 abbrev pub is_outside_address : ℕ → Bool
 is_outside_address at = at % 4 == 0 && nat_le 0x1000 at && nat_le at 0x3FFFFC

@@ -8,6 +8,8 @@ mod line;
 mod read;
 mod reader;
 mod symbols;
+#[cfg(test)]
+mod tests;
 mod words;
 
 pub use fault::ListNo;

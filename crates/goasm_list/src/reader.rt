@@ -1,7 +1,7 @@
-ghost use Rattle.std.specs.Prelude.{◌≡◌, [], ◌∷◌, ◌++◌, false, IfOk, MatchBool};
+ghost use Rattle.std.specs.Prelude.{◌≡◌, [], ◌∷◌, ◌++◌, false, IfOk};
 ghost use Rattle.goasm_list.specs.Form.{form_of};
 ghost use Rattle.goasm_list.specs.Rules as rules_of;
-ghost use Rattle.goasm_list.specs.Rules.{is_excess, most_files, names_file};
+ghost use Rattle.goasm_list.specs.Rules.{is_excess};
 ghost use Rattle.goasm_list.specs.Sound.{IsWhole, IsSound};
 ghost use Rattle.goasm_list.specs.Lists.{line_of};
 ghost use Rattle.goasm_list.specs.Views.{parts_in};
@@ -43,6 +43,7 @@ impl<'a> Model for Reader<'a> {
 }
 
 impl<'a> Reader<'a> {
+    /// A reader that has read no line.
     pub fn new(alloc: Global) -> Self
         ensures { result ≡ [] }
     {
@@ -54,7 +55,7 @@ impl<'a> Reader<'a> {
         }
     }
 
-    /// Reads the next line.
+    /// Reads the next line, which has this number. Where it is refused the number is told.
     pub fn read(self, alloc: Global, number: u32, text: &'a [u8]) -> Result<Self, ListNo>
         ensures { Follows result self.entry number (form_of text.now) }
     {
@@ -70,6 +71,7 @@ impl<'a> Reader<'a> {
         }
     }
 
+    /// The lines that were read.
     pub fn finish(self) -> Vec<ListLine>
         ensures lines { result.items ≡ self.entry }
         ensures sound { IsSound self.entry }

@@ -31,7 +31,7 @@ fn continues_symbol(byte: u8) -> bool
     opens_symbol(byte) || matches!(byte, b'0'..=b'9' | b'.')
 }
 
-/// Whether code of a program may call this address as outside code.
+/// Whether what lies outside an image may lie at this address.
 pub fn is_outside_address(at: u64) -> bool
     ensures { result ≡ spec.is_outside_address at }
 {
