@@ -1,5 +1,5 @@
 -- What a build may rely on in a list that was read.
-use Rattle.std.specs.Prelude.{◌≡◌, ℕ, Bool, false, List, ◌≤◌, ◌==◌, ◌&&◌, not, All, AllPairs, IsTrue, bytes_eq}
+use Rattle.std.specs.Prelude.{◌≡◌, ℕ, Bool, false, List, ◌<◌, ◌≤◌, ◌==◌, ◌&&◌, not, All, AllPairs, IsTrue, bytes_eq}
 use Rattle.goasm_list.specs.declared.line.LineKind.{LineKind}
 use Rattle.goasm_list.specs.declared.line.LineKind.TheVariants.{Asm, Stub, Include, Define, Outside, Entry}
 use Rattle.goasm_list.specs.declared.line.ListLine.{ListLine}
@@ -38,3 +38,7 @@ pub record IsSound (lines : List ListLine) : Type 0 where
   pub files : file_count lines ≤ most_files
   pub parts : All (λ line. IsTrue (has_parts line.kind line.name line.rest line.at)) lines
   pub apart : AllPairs (λ earlier later. clashes earlier later.kind later.name ≡ false) lines
+
+-- each line's number lies from 1 up to this one
+abbrev pub AreWithin : ℕ → List ListLine → Type 0
+AreWithin most lines = All (λ line. (0 < line.line) × (line.line ≤ most)) lines

@@ -1,5 +1,5 @@
 ghost use Rattle.std.specs.Prelude.{◌≡◌, ◌^◌, ◌<◌, length, IfOk};
-ghost use Rattle.goasm_list.specs.Sound.{IsSound};
+ghost use Rattle.goasm_list.specs.Sound.{IsSound, AreWithin};
 ghost use Rattle.goasm_list.specs.Lists.{Judges, refused_line, list_of};
 
 use crate::fault::ListNo;
@@ -20,6 +20,7 @@ pub fn read_list(alloc: Global, bytes: &[u8]) -> Result<BuildList, ListNo>
     ensures exact { Judges result (refused_line bytes.now) }
     ensures lines { IfOk result (λ list. list.lines ≡ list_of bytes.now) }
     ensures sound { IfOk result (λ list. IsSound list.lines) }
+    ensures numbers { IfOk result (λ list. AreWithin (length bytes.now) list.lines) }
 {
     let mut reader = Reader::new(alloc);
     let mut rest = bytes;

@@ -2,6 +2,7 @@ use Rattle.std.proofs.Common.{◌≡◌, ◌<◌, length, arith}
 use Rattle.std.proofs.lemmas.Bool.Decides.{nat_tests}
 use Rattle.std.proofs.lemmas.Result.{err_from_is_err_and}
 use Rattle.goasm_list.proofs.ListLemmas.{reached_none, reached_next, reached_refused, reached_all}
+use Rattle.goasm_list.proofs.NumberLemmas.{list_within}
 use Rattle.goasm_list.proofs.read.read_list.Goals as goal
 
 pub loop-rest-init : goal.loop-rest-init
@@ -29,3 +30,8 @@ pub returns-clause-lines : goal.returns-clause-lines
 returns-clause-lines c =
     let all : length c.loop-rest.rest.now ≡ 0 = grind (arith, nat_tests) in
     rw (c.new.ensures, c.finish.ensures.lines) ((reached_all _ _ _ _ c.loop-rest.invariant all).1)
+
+pub returns-clause-numbers : goal.returns-clause-numbers
+returns-clause-numbers c =
+    let all : length c.loop-rest.rest.now ≡ 0 = grind (arith, nat_tests) in
+    rw (c.new.ensures, c.finish.ensures.lines, (reached_all _ _ _ _ c.loop-rest.invariant all).1) (list_within c.args.bytes.now)
