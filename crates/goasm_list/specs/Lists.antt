@@ -1,5 +1,6 @@
 -- The lines of a build list, and the first one that is refused.
 use Rattle.std.specs.Prelude.{◌≡◌, ℕ, zero, suc, Bool, List, [], ◌∷◌, ◌++◌, ◌+◌, length, slice_index_or, Option, Some, None, Result, Ok, Err, if◌then◌else◌}
+use Rattle.std.specs.Option.{option_or}
 use Rattle.goasm_list.specs.declared.line.ListLine.{ListLine}
 use Rattle.goasm_list.specs.declared.fault.ListNo.{ListNo}
 use Rattle.goasm_list.specs.declared.fault.ListNo.TheVariants.{Q1, Memory}
@@ -30,15 +31,11 @@ lines_in (suc count) texts = lines_in count texts ++ line_in (count + 1) (form_a
 abbrev pub is_refused : List (List ℕ) → ℕ → Bool
 is_refused texts index = refuses (lines_in index texts) (form_at texts index)
 
-abbrev pub or_else : Option ℕ → Option ℕ → Option ℕ
-or_else (Some found) other = Some found
-or_else None other = other
-
 -- the number of the first line that is refused, of the first so many
 unfoldable pub refused_in : ℕ → List (List ℕ) → Option ℕ
 refused_in zero texts = None
 refused_in (suc count) texts =
-    or_else (refused_in count texts) (if is_refused texts count then Some (count + 1) else None)
+    option_or (refused_in count texts) (if is_refused texts count then Some (count + 1) else None)
 
 -- the number of the first line that is refused
 unfoldable pub refused_line : List ℕ → Option ℕ
@@ -48,11 +45,12 @@ refused_line bytes = refused_in (length (texts_of bytes)) (texts_of bytes)
 unfoldable pub list_of : List ℕ → List ListLine
 list_of bytes = lines_in (length (texts_of bytes)) (texts_of bytes)
 
--- a list is read exactly where no line is refused, unless memory is wanting, and is otherwise refused with the first
+-- what an error says of the first line that is refused; want of memory says nothing
 abbrev pub Refuses : ListNo → Option ℕ → Type 0
 Refuses (Q1 number) refused = refused ≡ Some number
 Refuses Memory refused = Unit {0}
 
+-- unless memory is wanting, a list is read exactly where no line is refused, and is otherwise refused with the first
 abbrev pub Judges : {T : Type 0} → Result T ListNo → Option ℕ → Type 0
 Judges (Ok read) refused = refused ≡ None
 Judges (Err fault) refused = Refuses fault refused

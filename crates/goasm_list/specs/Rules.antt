@@ -15,25 +15,17 @@ abbrev pub names_file : LineKind → Bool
 names_file Asm = true
 names_file Stub = true
 names_file Include = true
-names_file Define = false
-names_file Outside = false
-names_file Entry = false
+names_file _ = false
 
+-- an outside symbol
 abbrev pub is_outside : LineKind → Bool
 is_outside Outside = true
-is_outside Asm = false
-is_outside Stub = false
-is_outside Include = false
-is_outside Define = false
-is_outside Entry = false
+is_outside _ = false
 
+-- the entry
 abbrev pub is_entry : LineKind → Bool
 is_entry Entry = true
-is_entry Asm = false
-is_entry Stub = false
-is_entry Include = false
-is_entry Define = false
-is_entry Outside = false
+is_entry _ = false
 
 -- how many files these lines name
 abbrev pub file_count : List ListLine → ℕ
@@ -43,17 +35,14 @@ file_count lines = count_by (λ line. names_file line.kind) lines
 abbrev pub has_outside : List ListLine → List ℕ → Bool
 has_outside lines name = list_any (λ line. is_outside line.kind && bytes_eq line.name name) lines
 
+-- one of these lines is an entry
 abbrev pub has_entry : List ListLine → Bool
 has_entry lines = list_any (λ line. is_entry line.kind) lines
 
--- Stub files can't be read yet, so a line that names one is refused.
+-- Stub files can't be read yet, so a line that names one is refused. Where they can, this rule goes.
 abbrev pub is_unread : LineKind → Bool
 is_unread Stub = true
-is_unread Asm = false
-is_unread Include = false
-is_unread Define = false
-is_unread Outside = false
-is_unread Entry = false
+is_unread _ = false
 
 -- the lines before it leave no room for a line of this kind and name: they name as many files as a list may, or
 -- give the outside name, or have an entry

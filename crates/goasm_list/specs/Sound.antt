@@ -17,9 +17,11 @@ has_parts Define name rest at = not (is_empty name) && at == 0
 has_parts Outside name rest at = is_symbol name && is_empty rest && is_outside_address at
 has_parts Entry name rest at = is_symbol name && is_empty rest && at == 0
 
+-- what a line says has the parts of its kind
 abbrev pub IsWhole : Parts → Type 0
 IsWhole parts = IsTrue (has_parts parts.kind parts.name parts.rest parts.at)
 
+-- the same of the line of a form
 abbrev pub IsWholeForm : Form → Type 0
 IsWholeForm Skipped = Unit {0}
 IsWholeForm (Line parts) = IsWhole parts
@@ -29,11 +31,9 @@ IsWholeForm Faulty = Unit {0}
 abbrev pub clashes : ListLine → LineKind → List ℕ → Bool
 clashes earlier Outside name = is_outside earlier.kind && bytes_eq earlier.name name
 clashes earlier Entry name = is_entry earlier.kind
-clashes earlier Asm name = false
-clashes earlier Stub name = false
-clashes earlier Include name = false
-clashes earlier Define name = false
+clashes earlier _ name = false
 
+-- it names no more files than a list may, each line has its parts, and no two clash
 pub record IsSound (lines : List ListLine) : Type 0 where
   pub files : file_count lines ≤ most_files
   pub parts : All (λ line. IsTrue (has_parts line.kind line.name line.rest line.at)) lines

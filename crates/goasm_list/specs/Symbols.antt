@@ -16,7 +16,8 @@ opens_symbol byte = is_letter byte || byte == 95 || byte == 47
 abbrev pub continues_symbol : ℕ → Bool
 continues_symbol byte = opens_symbol byte || is_digit byte || byte == 46
 
--- a name as it stands for a word of a source: with `.` for U+00B7, `/` for U+2215 and its package before a `.`
+-- a name that a word of a source stands for: U+00B7 in the word is `.` in the name and U+2215 is `/`, and a name
+-- that would begin with `.` begins with `main.`
 unfoldable pub is_symbol : List ℕ → Bool
 is_symbol [] = false
 is_symbol (byte ∷ bytes) = opens_symbol byte && list_all continues_symbol bytes
