@@ -48,8 +48,9 @@ link_of (next.CallTo goal link) = link
 link_of _ = None
 
 -- the registers after a call's link: the address just behind the instruction
-abbrev pub with_link : Next → ℕ → List ℕ → List ℕ
-with_link next past regs = elim (link_of next) [ Some link ↦ slice_set regs link past | None ↦ regs ]
+abbrev pub with_link : Option ℕ → ℕ → List ℕ → List ℕ
+with_link (Some link) past regs = slice_set regs link past
+with_link None past regs = regs
 
 abbrev pub wide_of : State → ℕ → WideValue → ℕ
 wide_of state loaded Loaded = loaded % 2 ^ 128
@@ -77,7 +78,7 @@ pub record Applies (effect : Effect) (past : ℕ) (before after : State) : Type 
   pub loads : loaded_of before effect.load ≡ Some loaded
   pub written : List ℕ
   pub writes : Writes before loaded effect.writes.items before.regs written
-  pub regs : after.regs ≡ with_link effect.next past written
+  pub regs : after.regs ≡ with_link (link_of effect.next) past written
   pub wide : after.wide ≡ with_wide before loaded effect.wide
   pub mem : Stores before loaded effect.store after.mem
   pub flags : FlagsAfter before loaded effect.flags after.flags

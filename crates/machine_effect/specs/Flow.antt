@@ -45,7 +45,7 @@ or_else None second = second
 -- what an operation adds to a register, modulo 2 ^ 64, where it's a sum or a difference of that register and a constant
 abbrev pub added_by : ℕ → Op → Atom → Atom → Option ℕ
 added_by register Add a b = or_else (constant_after register a b) (constant_after register b a)
-added_by register Subtract a b = option_map (λ c. (2 ^ 64 - c) % 2 ^ 64) (constant_after register a b)
+added_by register Subtract a b = option_map (λ c. (2 ^ 64 - c % 2 ^ 64) % 2 ^ 64) (constant_after register a b)
 added_by register _ a b = None
 
 -- the same of a value, which has to have 64 bits
