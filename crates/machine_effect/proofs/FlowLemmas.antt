@@ -244,6 +244,7 @@ module _ (before : State) (loaded r d x : ℕ) (a b c : Atom) where
 -- a value that is a register plus d
 value_adds : (before : State) (loaded r d x : ℕ) (v : Value) → added_to r v ≡ Some d → Gives before loaded v x
     → Adds before r d x
+unfolding AddsBy
 value_adds before loaded r d x v is gives =
     elim (v.width == 64) as (λ wide. (v.width == 64) ≡ wide → (if wide then added_by r v.op v.a v.b else None) ≡ Some d
     → Adds before r d x) [
@@ -297,12 +298,57 @@ flow_keeps_link effect shape f is =
       | None ↦ λ _. tt
     ] told
 
+copy_op : (o : Op) → is_copy o ≡ true → o ≡ op.Copy
+copy_op op.Copy is = refl
+copy_op _ is = absurd (false≢true is)
+
+register_atom : (r : ℕ) (a : Atom) → is_register r a ≡ true → a ≡ Reg r
+register_atom r (Reg first) is = ap Reg (eqb-true first r is)
+register_atom r (Const number) is = absurd (false≢true is)
+register_atom r Loaded is = absurd (false≢true is)
+register_atom r (Wide number) is = absurd (false≢true is)
+
+stores_copy : (effect : Effect) (r : ℕ) → StoresCopy effect r → stores_register r effect.store ≡ true
+stores_copy effect r copy =
+    rw (copy.store, copy.bytes, copy.copy, copy.from, le-leb 64 copy.value.width copy.whole, eq-eqb r r refl) refl
+
+copy_stored : (effect : Effect) (r : ℕ) → stores_register r effect.store ≡ true → StoresCopy effect r
+copy_stored effect r is =
+    elim effect.store as (λ some. effect.store ≡ some → stores_register r some ≡ true → StoresCopy effect r) [
+      | Some store ↦ λ stands is.
+        let parts = and_parts (store.0.width == 8) (is_copy_of r store.1) is in
+        let value = and_parts (is_copy store.1.op && nat_le 64 store.1.width) (is_register r store.1.a) parts.1 in
+        let op = and_parts (is_copy store.1.op) (nat_le 64 store.1.width) value.0 in
+        record {
+          access = store.0;
+          value = store.1;
+          store = stands;
+          bytes = eqb-true store.0.width 8 parts.0;
+          copy = copy_op store.1.op op.0;
+          from = register_atom r store.1.a value.1;
+          whole = leb-true 64 store.1.width op.1;
+        }
+      | None ↦ λ _ bad. absurd (false≢true bad)
+    ] refl is
+
 pub flow_unstored : (effect : Effect) (shape : Shape) (f : Flow) → f ≡ flow_of effect shape
     → IfSome shape.link (λ link. f.stores_link ≡ false → ¬ StoresCopy effect link)
 unfolding flow_of
-flow_unstored effect shape f is = ?
+flow_unstored effect shape f is =
+    let told : f.stores_link ≡ of_link shape.link (λ link. stores_register link effect.store) = ap (λ g. g.stores_link) is in
+    elim shape.link as (λ some. f.stores_link ≡ of_link some (λ link. stores_register link effect.store)
+    → IfSome some (λ link. f.stores_link ≡ false → ¬ StoresCopy effect link)) [
+      | Some link ↦ λ told none copy. false≢true (sym none ∙ told ∙ stores_copy effect link copy)
+      | None ↦ λ _. tt
+    ] told
 
 pub flow_stored : (effect : Effect) (shape : Shape) (f : Flow) → f ≡ flow_of effect shape
     → IfSome shape.link (λ link. f.stores_link ≡ true → StoresCopy effect link)
 unfolding flow_of
-flow_stored effect shape f is = ?
+flow_stored effect shape f is =
+    let told : f.stores_link ≡ of_link shape.link (λ link. stores_register link effect.store) = ap (λ g. g.stores_link) is in
+    elim shape.link as (λ some. f.stores_link ≡ of_link some (λ link. stores_register link effect.store)
+    → IfSome some (λ link. f.stores_link ≡ true → StoresCopy effect link)) [
+      | Some link ↦ λ told some. copy_stored effect link (sym told ∙ some)
+      | None ↦ λ _. tt
+    ] told

@@ -17,11 +17,11 @@ abbrev pub WritesBytes : BTreeMap ℕ ℕ → BTreeMap ℕ ℕ → ℕ → ℕ �
 WritesBytes old new at count bytes =
     (q : ℕ) → get nat_cmp new q ≡ (if is_within at count q then slice_get bytes (q - at) else get nat_cmp old q)
 
--- the tree has from an address on what the list has, and all else is as before
-abbrev pub Restores : BTreeMap ℕ ℕ → BTreeMap ℕ ℕ → ℕ → List (Option ℕ) → Type 0
-Restores old new at before =
+-- the tree has from an address on what the first places of the list have, and all else is as before
+abbrev pub Restores : BTreeMap ℕ ℕ → BTreeMap ℕ ℕ → ℕ → ℕ → List (Option ℕ) → Type 0
+Restores old new at count before =
     (q : ℕ) → get nat_cmp new q
-    ≡ (if is_within at (length before) q then option_and_then (λ byte. byte) (slice_get before (q - at)) else get nat_cmp old q)
+    ≡ (if is_within at count q then option_and_then (λ byte. byte) (slice_get before (q - at)) else get nat_cmp old q)
 
 abbrev pub SetsOne : BTreeMap ℕ ℕ → BTreeMap ℕ ℕ → ℕ → Option ℕ → Type 0
 SetsOne old new at byte = (q : ℕ) → get nat_cmp new q ≡ (if q == at then byte else get nat_cmp old q)

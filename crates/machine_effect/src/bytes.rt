@@ -1,5 +1,5 @@
 // Bytes written into a map one after another, so that they can be taken back where memory ends half-way.
-ghost use Rattle.std.specs.Prelude.{◌≡◌, ℕ, ◌+◌, ◌<◌, ◌≤◌, ◌^◌, length, slice_get, IfOk, IsSome, Some};
+ghost use Rattle.std.specs.Prelude.{◌≡◌, ℕ, ◌+◌, ◌<◌, ◌≤◌, ◌^◌, length, slice_get, IfOk, IsSome, Some, true, false};
 ghost use Rattle.std.specs.Ordering.{nat_cmp};
 ghost use Rattle.std.specs.BTreeMap as tree;
 ghost use Rattle.machine_effect.specs.Bytes.{WritesBytes, Restores, StoodBefore, SetsOne};
@@ -32,18 +32,26 @@ pub fn write(map: &mut BTreeMap<u64, u8>, at: u64, bytes: &[u8]) -> usize
     ensures written { WritesBytes map.old map.new at result bytes.now }
 {
     for (i, byte) in bytes.iter().enumerate() {
-        if map.insert(at + i as u64, *byte).is_err() {
+        if !put_one(map, at + i as u64, *byte) {
             return i;
         }
     }
     bytes.len()
 }
 
+// Sets the byte at an address, where there is memory for it.
+fn put_one(map: &mut BTreeMap<u64, u8>, at: u64, byte: u8) -> bool
+    ensures set { result ≡ true → SetsOne map.old map.new at (Some byte) }
+    ensures unset { result ≡ false → tree.IsUnchanged map.old map.new }
+{
+    map.insert(at, byte).is_ok()
+}
+
 /// Puts back what stood at addresses that now have a byte each.
 pub fn restore(map: &mut BTreeMap<u64, u8>, at: u64, before: &[Option<u8>])
     requires fits { at + length before.now ≤ 2 ^ 64 }
     requires mapped { (k : ℕ) → k < length before.now → IsSome (tree.get nat_cmp map.old (at + k)) }
-    ensures { Restores map.old map.new at before.now }
+    ensures { Restores map.old map.new at (length before.now) before.now }
 {
     for (i, byte) in before.iter().enumerate() {
         set_one(map, at + i as u64, *byte);
