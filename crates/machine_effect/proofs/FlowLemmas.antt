@@ -85,7 +85,7 @@ keeps effect r none past before after applies =
     ∙ unlinked r past (link_of effect.next) applies.written parts.0
     ∙ untouched before applies.loaded r effect.writes.items before.regs applies.written applies.writes parts.1
 
-set_here : (xs : List ℕ) (i r a : ℕ) → i ≡ r → r < length xs → get_or (set xs i a) r 0 ≡ a
+pub set_here : (xs : List ℕ) (i r a : ℕ) → i ≡ r → r < length xs → get_or (set xs i a) r 0 ≡ a
 set_here xs i r a same inside = rw same (get_or-set_same xs r a 0 inside)
 
 -- a sole write leaves its value in the register
@@ -104,13 +104,13 @@ wrote before loaded r v (w ∷ ws) regs after writes inside one =
     → sole (if here then w.1 ∷ written_to r ws else written_to r ws) ≡ Some v
     → (y : ℕ) × Gives before loaded v y × (get_or after r 0 ≡ y % 2 ^ 64)) [
       | true ↦ λ here one.
-        let ends = alone r ws w.1 v one in
-        let left : get_or after r 0 ≡ get_or regs' r 0 = untouched before loaded r ws regs' after writes.2 ends.0 in
-        let same : get_or regs' r 0 ≡ x % 2 ^ 64 = set_here regs w.0 r (x % 2 ^ 64) (eqb-true w.0 r here) inside in
-        (x, rw ends.1 at writes.1, left ∙ same)
+          let ends = alone r ws w.1 v one in
+          let left : get_or after r 0 ≡ get_or regs' r 0 = untouched before loaded r ws regs' after writes.2 ends.0 in
+          let same : get_or regs' r 0 ≡ x % 2 ^ 64 = set_here regs w.0 r (x % 2 ^ 64) (eqb-true w.0 r here) inside in
+          (x, rw ends.1 at writes.1, left ∙ same)
       | false ↦ λ away one.
-        let still : r < length regs' = rw length-set inside in
-        wrote before loaded r v ws regs' after writes.2 still one
+          let still : r < length regs' = rw length-set inside in
+          wrote before loaded r v ws regs' after writes.2 still one
     ] refl one
 
 -- a move that is written is never `Keep`
@@ -168,12 +168,12 @@ sp_moved effect sp k is =
     → (is_named sp (link_of effect.next) ≡ false)
     × Moved effect sp k (option_and_then (added_to sp) (sole (written_to sp effect.writes.items)))) [
       | true ↦ λ is.
-        elim (is_named sp (link_of effect.next)) as (λ links. (if links then Other
-        else move_by effect sp (option_and_then (added_to sp) (sole (written_to sp effect.writes.items)))) ≡ By k
-        → (links ≡ false) × Moved effect sp k (option_and_then (added_to sp) (sole (written_to sp effect.writes.items)))) [
-          | true ↦ λ bad. cc
-          | false ↦ λ is. (refl, moved effect sp k _ is)
-        ] is
+          elim (is_named sp (link_of effect.next)) as (λ links. (if links then Other
+          else move_by effect sp (option_and_then (added_to sp) (sole (written_to sp effect.writes.items)))) ≡ By k
+          → (links ≡ false) × Moved effect sp k (option_and_then (added_to sp) (sole (written_to sp effect.writes.items)))) [
+            | true ↦ λ bad. cc
+            | false ↦ λ is. (refl, moved effect sp k _ is)
+          ] is
       | false ↦ λ bad. cc
     ] is
 
@@ -212,8 +212,8 @@ Adds before r d x = x % 2 ^ 64 ≡ (reg_of before r + d) % 2 ^ 64
 module _ (before : State) (loaded r d x : ℕ) (a b c : Atom) where
   AddsBy : Op → Type 0
   AddsBy o = added_by r o a b ≡ Some d
-    → IsOutcome (operate (holds before loaded) before.flags.carry o 64 (atom_of before loaded a) (atom_of before loaded b) (atom_of before loaded c)) x
-    → Adds before r d x
+      → IsOutcome (operate (holds before loaded) before.flags.carry o 64 (atom_of before loaded a) (atom_of before loaded b) (atom_of before loaded c)) x
+      → Adds before r d x
 
   adds_by : (o : Op) → AddsBy o
   unfolding AddsBy Adds operate
@@ -221,22 +221,22 @@ module _ (before : State) (loaded r d x : ℕ) (a b c : Atom) where
       elim (constant_after r a b) as (λ first. constant_after r a b ≡ first → or_else first (constant_after r b a) ≡ Some d
       → x % 2 ^ 64 ≡ (reg_of before r + d) % 2 ^ 64) [
         | Some e ↦ λ first is.
-          let at = after_constant before loaded r e a b first in
-          let same : e ≡ d = cc in
-          sum_added (atom_of before loaded a) (atom_of before loaded b) d (reg_of before r) x at.0 (at.1 ∙ same) gives
+            let at = after_constant before loaded r e a b first in
+            let same : e ≡ d = cc in
+            sum_added (atom_of before loaded a) (atom_of before loaded b) d (reg_of before r) x at.0 (at.1 ∙ same) gives
         | None ↦ λ _ second.
-          let at = after_constant before loaded r d b a second in
-          let turned : x ≡ (atom_of before loaded b + atom_of before loaded a) % 2 ^ 64 = omega arith in
-          sum_added (atom_of before loaded b) (atom_of before loaded a) d (reg_of before r) x at.0 at.1 turned
+            let at = after_constant before loaded r d b a second in
+            let turned : x ≡ (atom_of before loaded b + atom_of before loaded a) % 2 ^ 64 = omega arith in
+            sum_added (atom_of before loaded b) (atom_of before loaded a) d (reg_of before r) x at.0 at.1 turned
       ] refl is
   adds_by op.Subtract is gives =
       elim (constant_after r a b) as (λ first. constant_after r a b ≡ first
       → option_map (λ c. (2 ^ 64 - c % 2 ^ 64) % 2 ^ 64) first ≡ Some d
       → x % 2 ^ 64 ≡ (reg_of before r + d) % 2 ^ 64) [
         | Some e ↦ λ first is.
-          let at = after_constant before loaded r e a b first in
-          let same : (2 ^ 64 - e % 2 ^ 64) % 2 ^ 64 ≡ d = cc in
-          difference_added (atom_of before loaded a) (atom_of before loaded b) e d (reg_of before r) x at.0 at.1 same gives
+            let at = after_constant before loaded r e a b first in
+            let same : (2 ^ 64 - e % 2 ^ 64) % 2 ^ 64 ≡ d = cc in
+            difference_added (atom_of before loaded a) (atom_of before loaded b) e d (reg_of before r) x at.0 at.1 same gives
         | None ↦ λ _ bad. cc
       ] refl is
   adds_by _ is gives = cc
@@ -249,10 +249,10 @@ value_adds before loaded r d x v is gives =
     elim (v.width == 64) as (λ wide. (v.width == 64) ≡ wide → (if wide then added_by r v.op v.a v.b else None) ≡ Some d
     → Adds before r d x) [
       | true ↦ λ wide is.
-        let whole : v.width ≡ 64 = eqb-true v.width 64 wide in
-        let gives' : IsOutcome (operate (holds before loaded) before.flags.carry v.op 64 (atom_of before loaded v.a) (atom_of before loaded v.b) (atom_of before loaded v.c)) x
-            = rw whole at gives in
-        adds_by before loaded r d x v.a v.b v.c v.op is gives'
+          let whole : v.width ≡ 64 = eqb-true v.width 64 wide in
+          let gives' : IsOutcome (operate (holds before loaded) before.flags.carry v.op 64 (atom_of before loaded v.a) (atom_of before loaded v.b) (atom_of before loaded v.c)) x
+          = rw whole at gives in
+          adds_by before loaded r d x v.a v.b v.c v.op is gives'
       | false ↦ λ _ bad. cc
     ] refl is
 
@@ -279,7 +279,7 @@ flow_moves effect shape f is k by past before after state inside applies =
     let wrote_it = wrote before applies.loaded shape.sp value.0 effect.writes.items before.regs applies.written applies.writes within value.1 in
     let adds = value_adds before applies.loaded shape.sp d wrote_it.0 value.0 value.2 wrote_it.1 in
     let linked : get_or after.regs shape.sp 0 ≡ get_or applies.written shape.sp 0
-        = ap (λ xs. get_or xs shape.sp 0) applies.regs ∙ unlinked shape.sp past (link_of effect.next) applies.written how.0 in
+    = ap (λ xs. get_or xs shape.sp 0) applies.regs ∙ unlinked shape.sp past (link_of effect.next) applies.written how.0 in
     let same : unsigned 64 k ≡ d % 2 ^ 64 = rw how.1.2 at (unsigned-signed d) in
     linked ∙ final_move (get_or before.regs shape.sp 0) d wrote_it.0 (unsigned 64 k) (get_or applies.written shape.sp 0) adds same wrote_it.2
 
@@ -316,18 +316,18 @@ copy_stored : (effect : Effect) (r : ℕ) → stores_register r effect.store ≡
 copy_stored effect r is =
     elim effect.store as (λ some. effect.store ≡ some → stores_register r some ≡ true → StoresCopy effect r) [
       | Some store ↦ λ stands is.
-        let parts = and_parts (store.0.width == 8) (is_copy_of r store.1) is in
-        let value = and_parts (is_copy store.1.op && nat_le 64 store.1.width) (is_register r store.1.a) parts.1 in
-        let op = and_parts (is_copy store.1.op) (nat_le 64 store.1.width) value.0 in
-        record {
-          access = store.0;
-          value = store.1;
-          store = stands;
-          bytes = eqb-true store.0.width 8 parts.0;
-          copy = copy_op store.1.op op.0;
-          from = register_atom r store.1.a value.1;
-          whole = leb-true 64 store.1.width op.1;
-        }
+          let parts = and_parts (store.0.width == 8) (is_copy_of r store.1) is in
+          let value = and_parts (is_copy store.1.op && nat_le 64 store.1.width) (is_register r store.1.a) parts.1 in
+          let op = and_parts (is_copy store.1.op) (nat_le 64 store.1.width) value.0 in
+          record {
+            access = store.0;
+            value = store.1;
+            store = stands;
+            bytes = eqb-true store.0.width 8 parts.0;
+            copy = copy_op store.1.op op.0;
+            from = register_atom r store.1.a value.1;
+            whole = leb-true 64 store.1.width op.1;
+          }
       | None ↦ λ _ bad. absurd (false≢true bad)
     ] refl is
 

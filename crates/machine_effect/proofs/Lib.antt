@@ -1,2 +1,3 @@
-mod MemoryLemmas
-mod FlowLemmas
+pub mod MemoryLemmas
+pub mod FlowLemmas
+pub mod StateLemmas

@@ -7,3 +7,5 @@ pub mod FlagsAfter
 pub mod Applies
 pub mod Flow
 pub mod Steps
+pub mod OperationCases
+pub mod FlagCases

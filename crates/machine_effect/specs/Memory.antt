@@ -13,18 +13,18 @@ abbrev pub byte_at : Memory → ℕ → Option ℕ
 byte_at memory at = map.get memory at
 
 -- this many bytes from an address on; none where one of them is missing
-abbrev pub bytes_at : Memory → ℕ → ℕ → Option (List ℕ)
+unfoldable pub bytes_at : Memory → ℕ → ℕ → Option (List ℕ)
 bytes_at memory at zero = Some []
 bytes_at memory at (suc count) =
     option_and_then (λ byte. option_map (λ rest. byte ∷ rest) (bytes_at memory (at + 1) count)) (byte_at memory at)
 
 -- the number that bytes make, the lowest first
-abbrev pub number_of : List ℕ → ℕ
+unfoldable pub number_of : List ℕ → ℕ
 number_of [] = 0
 number_of (byte ∷ rest) = byte + 256 * number_of rest
 
 -- the lowest bytes of a number, this many
-abbrev pub bytes_of : ℕ → ℕ → List ℕ
+unfoldable pub bytes_of : ℕ → ℕ → List ℕ
 bytes_of zero number = []
 bytes_of (suc count) number = number % 256 ∷ bytes_of count (number / 256)
 

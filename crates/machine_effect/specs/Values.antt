@@ -1,6 +1,6 @@
 -- Atoms, conditions and values in a state. `loaded` is the number that the effect loads, 0 where it loads nothing.
 use Rattle.std.specs.Prelude.{ℕ, Bool, ◌/◌, ◌%◌, ◌^◌, ◌==◌, ◌&&◌, ◌||◌, not, nat_lt, int_lt, slice_index, if◌then◌else◌}
-use Rattle.std.specs.Bool.{xor}
+use Rattle.std.specs.Bool.{beq}
 use Rattle.machine_effect.specs.declared.state.State.{State}
 use Rattle.machine_effect.specs.declared.state.Flags.{Flags}
 use Rattle.machine_effect.specs.declared.effect.Atom.{Atom}
@@ -50,10 +50,10 @@ holds_by flags atom cond.CarryOrZero = flags.carry || flags.zero
 holds_by flags atom cond.NeitherCarryNorZero = not (flags.carry || flags.zero)
 holds_by flags atom cond.CarryNotZero = flags.carry && not flags.zero
 holds_by flags atom cond.NoCarryOrZero = not flags.carry || flags.zero
-holds_by flags atom cond.Less = xor flags.sign flags.over
-holds_by flags atom cond.GreaterOrEqual = not (xor flags.sign flags.over)
-holds_by flags atom cond.LessOrEqual = flags.zero || xor flags.sign flags.over
-holds_by flags atom cond.Greater = not (flags.zero || xor flags.sign flags.over)
+holds_by flags atom cond.Less = not (beq flags.sign flags.over)
+holds_by flags atom cond.GreaterOrEqual = beq flags.sign flags.over
+holds_by flags atom cond.LessOrEqual = flags.zero || not (beq flags.sign flags.over)
+holds_by flags atom cond.Greater = not (flags.zero || not (beq flags.sign flags.over))
 holds_by flags atom (cond.Equal a b w) = equal w (atom a) (atom b)
 holds_by flags atom (cond.NotEqual a b w) = not (equal w (atom a) (atom b))
 holds_by flags atom (cond.SignedBelow a b w) = signed_below w (atom a) (atom b)

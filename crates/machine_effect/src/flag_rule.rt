@@ -11,13 +11,29 @@ pub enum FlagRule {
     /// All flags are free (DIV, IDIV).
     Free,
     /// All five by a plus b (ADD, XADD).
-    Add { a: Atom, b: Atom, width: u8 },
+    Add {
+        a: Atom,
+        b: Atom,
+        width: u8,
+    },
     /// All five by a plus b plus the carry flag (ADC).
-    AddCarry { a: Atom, b: Atom, width: u8 },
+    AddCarry {
+        a: Atom,
+        b: Atom,
+        width: u8,
+    },
     /// All five by a minus b; carry is the borrow (SUB, CMP, NEG, CMPXCHG).
-    Subtract { a: Atom, b: Atom, width: u8 },
+    Subtract {
+        a: Atom,
+        b: Atom,
+        width: u8,
+    },
     /// All five by a minus b minus the carry flag; carry is the borrow (SBB).
-    SubtractBorrow { a: Atom, b: Atom, width: u8 },
+    SubtractBorrow {
+        a: Atom,
+        b: Atom,
+        width: u8,
+    },
     /// Carry and over are cleared; zero, sign and parity by the result (AND, OR, XOR, TEST).
     Logic {
         logic: Logic,
@@ -26,9 +42,15 @@ pub enum FlagRule {
         width: u8,
     },
     /// Carry stays; the others by a plus 1 (INC).
-    Increment { a: Atom, width: u8 },
+    Increment {
+        a: Atom,
+        width: u8,
+    },
     /// Carry stays; the others by a minus 1 (DEC).
-    Decrement { a: Atom, width: u8 },
+    Decrement {
+        a: Atom,
+        width: u8,
+    },
     /// With a count that isn't 0 modulo the width: zero, sign and parity by the shifted number, carry and over
     /// free. Otherwise all stay (SHL, SHR, SAR).
     Shift {
@@ -39,15 +61,32 @@ pub enum FlagRule {
     },
     /// With a count that isn't 0 modulo the width carry and over are free. The others stay, and with the count
     /// 0 all do (ROL).
-    Rotate { count: Atom, width: u8 },
+    Rotate {
+        count: Atom,
+        width: u8,
+    },
     /// Carry and over are set where the product has more than the width's bits; the others are free (MUL).
-    Multiply { a: Atom, b: Atom, width: u8 },
+    Multiply {
+        a: Atom,
+        b: Atom,
+        width: u8,
+    },
     /// Carry and over are set where the signed product doesn't fit the width; the others are free (IMUL).
-    SignedMultiply { a: Atom, b: Atom, width: u8 },
+    SignedMultiply {
+        a: Atom,
+        b: Atom,
+        width: u8,
+    },
     /// Zero is set where the atom is 0; the others are free (BSF, BSR).
-    Scan { a: Atom, width: u8 },
+    Scan {
+        a: Atom,
+        width: u8,
+    },
     /// Zero is set where the atom is 0; the others are cleared (POPCNT).
-    CountOnes { a: Atom, width: u8 },
+    CountOnes {
+        a: Atom,
+        width: u8,
+    },
     /// Parity stays; the others by a plus the shifted b at 64 bits (ADDS of arm64).
     AddShifted {
         a: Atom,

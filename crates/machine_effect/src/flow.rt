@@ -5,7 +5,7 @@ ghost use Rattle.machine_effect.specs.Flow as spec;
 ghost use Rattle.machine_effect.specs.Flow.{flow_of};
 ghost use Rattle.machine_effect.specs.FlagsAfter as flags;
 ghost use Rattle.machine_effect.specs.Applies as applies;
-ghost use Rattle.machine_effect.specs.Steps.{KeepsRegister, MovesRegister, StoresCopy};
+ghost use Rattle.machine_effect.specs.Steps.{KeepsRegister, MovesRegister, StoresCopy, SavesRegister};
 ghost use Rattle.std.specs.Option.{option_map, option_copied};
 
 use crate::effect::{Access, Atom, Effect, Value};
@@ -64,6 +64,7 @@ pub fn effect_flow(effect: &Effect, shape: &Shape) -> Flow
     ensures link_kept { IfSome shape.now.link (λ link. result.writes_link ≡ false → KeepsRegister effect.now link) }
     ensures link_unstored { IfSome shape.now.link (λ link. result.stores_link ≡ false → ¬ StoresCopy effect.now link) }
     ensures link_stored { IfSome shape.now.link (λ link. result.stores_link ≡ true → StoresCopy effect.now link) }
+    ensures link_saved { IfSome shape.now.link (λ link. result.stores_link ≡ true → SavesRegister effect.now link) }
 {
     read_flow(effect, shape)
 }
@@ -213,10 +214,12 @@ fn links_to(next: Next, register: u8) -> bool
 {
     match next {
         Next::Call {
-            link: Some(link), ..
+            link: Some(link),
+            ..
         }
         | Next::CallTo {
-            link: Some(link), ..
+            link: Some(link),
+            ..
         } => link == register,
         _ => false,
     }

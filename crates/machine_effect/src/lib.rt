@@ -10,6 +10,7 @@ mod effect;
 mod flag_rule;
 mod flow;
 mod frame;
+mod laws;
 mod mem;
 mod next;
 mod op;
@@ -24,3 +25,6 @@ pub use mem::Mem;
 pub use next::Next;
 pub use op::{Division, Logic, Op, Shift, Signs, Word};
 pub use state::{Flags, State};
+
+#[cfg(test)]
+mod tests;
