@@ -1,12 +1,10 @@
-use Rattle.std.proofs.Common.{◌≡◌, ◌≢◌, ℕ, zero, suc, ℤ, pos, negsuc, ◌+◌, ◌-◌, ◌*◌, ◌%◌, ◌^◌, ◌<◌, ◌≤◌, ◌==◌, Bool, true, false, not, ◌||◌, ◌&&◌, cond, nat_lt, nat_le, List, [], ◌∷◌, length, get_or, set, take, drop, Option, Some, None, IfSome, refl, sym, ap, subst, ◌∙◌, arith, if◌then◌else◌, length-set, get_or-set_same, get_or-set_other}
-use Rattle.std.proofs.lemmas.Bool.{eqb-true, eqb-false, ne_eqb, eq-eqb, or_parts, not-true, not-false, and_parts, true≢false, false≢true, leb-true, le-leb}
+use Rattle.std.proofs.Common.{◌≡◌, ◌≢◌, ℕ, ℤ, pos, negsuc, ◌+◌, ◌-◌, ◌*◌, ◌%◌, ◌^◌, ◌<◌, ◌≤◌, ◌==◌, Bool, true, false, not, ◌||◌, ◌&&◌, nat_lt, nat_le, List, [], ◌∷◌, length, get_or, set, take, drop, Option, Some, None, IfSome, refl, sym, ap, ◌∙◌, arith, if◌then◌else◌, length-set, get_or-set_same, get_or-set_other}
+use Rattle.std.proofs.lemmas.Bool.{eqb-true, eqb-false, eq-eqb, or_parts, and_parts, false≢true, leb-true, le-leb}
 use Rattle.std.proofs.lemmas.List.{take_rest}
-use Rattle.std.proofs.Math.Nat.{add-mod-mod, mod-eq_of_lt, mod-lt}
 use Rattle.std.specs.List.{list_any}
 use Rattle.std.specs.Option.{option_map, option_and_then}
 use Rattle.machine_effect.specs.declared.state.State.{State}
 use Rattle.machine_effect.specs.declared.effect.Effect.{Effect}
-use Rattle.machine_effect.specs.declared.effect.Access.{Access}
 use Rattle.machine_effect.specs.declared.effect.Value.{Value}
 use Rattle.machine_effect.specs.declared.effect.Atom.{Atom}
 use Rattle.machine_effect.specs.declared.effect.Atom.TheVariants.{Reg, Const, Loaded, Wide}
@@ -14,12 +12,11 @@ use Rattle.machine_effect.specs.declared.op.Op.{Op}
 use Rattle.machine_effect.specs.declared.op.Op.TheVariants as op
 use Rattle.machine_effect.specs.declared.flow.Shape.{Shape}
 use Rattle.machine_effect.specs.declared.flow.Flow.{Flow}
-use Rattle.machine_effect.specs.declared.flow.SpMove.{SpMove}
 use Rattle.machine_effect.specs.declared.flow.SpMove.TheVariants.{Keep, By, Other}
-use Rattle.machine_effect.specs.Numbers.{signed, unsigned, moved_by}
-use Rattle.machine_effect.specs.Operations.{Outcome, IsOutcome, Exactly, operate, difference}
-use Rattle.machine_effect.specs.Values.{reg_of, atom_of, holds, outcome_of, Gives}
-use Rattle.machine_effect.specs.Applies.{IsState, Applies, Writes, with_link, link_of}
+use Rattle.machine_effect.specs.Numbers.{signed, unsigned}
+use Rattle.machine_effect.specs.Operations.{IsOutcome, operate, difference}
+use Rattle.machine_effect.specs.Values.{reg_of, atom_of, holds, Gives}
+use Rattle.machine_effect.specs.Applies.{Writes, with_link, link_of}
 use Rattle.machine_effect.specs.Flow.{written_to, is_named, writes_register, constant_after, or_else, added_by, added_to, is_stack_move, move_by, sole, sp_move_of, is_register, is_copy, is_copy_of, stores_register, of_link, flow_of}
 use Rattle.machine_effect.specs.Steps.{KeepsRegister, MovesRegister, StoresCopy}
 

@@ -1,5 +1,5 @@
 -- What is written into a tree of bytes, and taken back.
-use Rattle.std.specs.Prelude.{◌≡◌, ℕ, List, Bool, ◌+◌, ◌-◌, ◌<◌, ◌&&◌, nat_le, nat_lt, ◌==◌, length, slice_get, Option, Some, None, if◌then◌else◌}
+use Rattle.std.specs.Prelude.{◌≡◌, ℕ, List, Bool, ◌+◌, ◌-◌, ◌<◌, ◌&&◌, nat_le, nat_lt, ◌==◌, length, slice_get, Option, Some, if◌then◌else◌}
 use Rattle.std.specs.Option.{option_and_then}
 use Rattle.std.specs.Ordering.{nat_cmp}
 use Rattle.std.specs.BTreeMap.{BTreeMap, get}

@@ -1,5 +1,5 @@
 -- What an effect does to the stack pointer and the link register, read off its form.
-use Rattle.std.specs.Prelude.{◌≡◌, ℕ, Bool, true, false, List, [], ◌∷◌, ◌+◌, ◌-◌, ◌*◌, ◌%◌, ◌^◌, ◌==◌, ◌&&◌, ◌||◌, nat_le, not, Option, Some, None, if◌then◌else◌}
+use Rattle.std.specs.Prelude.{ℕ, Bool, true, false, List, [], ◌∷◌, ◌+◌, ◌-◌, ◌*◌, ◌%◌, ◌^◌, ◌==◌, ◌&&◌, ◌||◌, nat_le, not, Option, Some, None, if◌then◌else◌}
 use Rattle.std.specs.Option.{option_map, option_and_then}
 use Rattle.std.specs.List.{list_any}
 use Rattle.machine_effect.specs.declared.effect.Effect.{Effect}
@@ -9,7 +9,6 @@ use Rattle.machine_effect.specs.declared.effect.Atom.{Atom}
 use Rattle.machine_effect.specs.declared.effect.Atom.TheVariants.{Reg, Const}
 use Rattle.machine_effect.specs.declared.op.Op.{Op}
 use Rattle.machine_effect.specs.declared.op.Op.TheVariants.{Copy, Add, Subtract}
-use Rattle.machine_effect.specs.declared.next.Next.{Next}
 use Rattle.machine_effect.specs.declared.flow.Shape.{Shape}
 use Rattle.machine_effect.specs.declared.flow.Flow.{Flow}
 use Rattle.machine_effect.specs.declared.flow.SpMove.{SpMove}

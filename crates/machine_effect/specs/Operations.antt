@@ -1,5 +1,5 @@
 -- What each operation gives, on numbers.
-use Rattle.std.specs.Prelude.{◌≡◌, ℕ, zero, suc, ℤ, pos, negsuc, Bool, ◌+◌, ◌-◌, ◌*◌, ◌*ℤ◌, ◌/◌, ◌%◌, ◌^◌, ◌<◌, ◌==◌, ◌&&◌, nat_lt, nat_le, reverse, bit_and, bit_or, bit_xor, int_div, int_rem, if◌then◌else◌}
+use Rattle.std.specs.Prelude.{◌≡◌, ℕ, zero, suc, ℤ, pos, Bool, ◌+◌, ◌-◌, ◌*◌, ◌*ℤ◌, ◌/◌, ◌%◌, ◌^◌, ◌<◌, ◌==◌, ◌&&◌, nat_lt, nat_le, reverse, bit_and, bit_or, bit_xor, int_div, int_rem, if◌then◌else◌}
 use Rattle.std.specs.Int.{int_shr}
 use lib.Count.{ones_in, count_leading_zeros, count_trailing_zeros}
 use Rattle.machine_effect.specs.declared.cond.Cond.{Cond}

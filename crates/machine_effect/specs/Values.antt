@@ -1,5 +1,5 @@
 -- Atoms, conditions and values in a state. `loaded` is the number that the effect loads, 0 where it loads nothing.
-use Rattle.std.specs.Prelude.{ℕ, Bool, ◌/◌, ◌%◌, ◌^◌, ◌==◌, ◌&&◌, ◌||◌, not, nat_lt, int_lt, slice_index, if◌then◌else◌}
+use Rattle.std.specs.Prelude.{ℕ, Bool, ◌/◌, ◌%◌, ◌^◌, ◌==◌, ◌&&◌, ◌||◌, not, nat_lt, int_lt, slice_index}
 use Rattle.std.specs.Bool.{beq}
 use Rattle.machine_effect.specs.declared.state.State.{State}
 use Rattle.machine_effect.specs.declared.state.Flags.{Flags}

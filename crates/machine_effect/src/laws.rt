@@ -7,7 +7,6 @@ ghost use Rattle.machine_effect.specs.declared.effect.Effect.{Effect};
 ghost use Rattle.machine_effect.specs.Steps.{StateStays};
 
 // The operations, flag rules and conditions give what is listed of them.
-#[allow(dead_code)]
 fn meets_cases()
     ensures operations { IsTrue (list_all operations.is_met operations.cases) }
     ensures flags { IsTrue (list_all flags.is_met flags.flag_cases) }
@@ -15,7 +14,6 @@ fn meets_cases()
 {}
 
 // Each effect keeps the widths of a state's numbers.
-#[allow(dead_code)]
 fn keeps_widths()
     ensures { (effect : Effect) → StateStays effect }
 {}

@@ -1,4 +1,4 @@
-use Rattle.std.proofs.Common.{length, ◌<◌, Some, None, get_or, sym, arith}
+use Rattle.std.proofs.Common.{length, ◌<◌, None, get_or, sym, arith}
 use Rattle.std.proofs.lemmas.Option.{slice_get-get_or}
 use Rattle.machine_effect.proofs.MemoryLemmas.{restored_more}
 use Rattle.machine_effect.proofs.bytes.restore.Goals as goal

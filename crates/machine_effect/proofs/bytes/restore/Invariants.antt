@@ -1,4 +1,3 @@
-use Rattle.std.proofs.Common.{◌≡◌}
 use Rattle.machine_effect.specs.Bytes.{Restores}
 use Rattle.machine_effect.proofs.bytes.restore.Given as goal
 

@@ -1,4 +1,3 @@
-use Rattle.std.proofs.Common.{◌≡◌}
 use Rattle.machine_effect.specs.Bytes.{WritesBytes}
 use Rattle.machine_effect.proofs.bytes.write.Given as goal
 
