@@ -1,5 +1,6 @@
 -- The five flags after an instruction. What a manual leaves undefined is free: any value is allowed.
 use Rattle.std.specs.Prelude.{◌≡◌, ℕ, pos, Bool, true, false, ◌+◌, ◌*◌, ◌+ℤ◌, ◌-ℤ◌, ◌*ℤ◌, ◌%◌, ◌^◌, ◌==◌, not, nat_lt, nat_le, Option, Some, None, IfSome, if◌then◌else◌}
+use Rattle.std.specs.Option.{option_map}
 use lib.Count.{ones_in}
 use Rattle.machine_effect.specs.declared.state.State.{State}
 use Rattle.machine_effect.specs.declared.state.Flags.{Flags}
@@ -69,7 +70,7 @@ abbrev pub keep_parity : Flags → FlagChoice → FlagChoice
 keep_parity flags choice = record choice { parity = Some flags.parity }
 
 abbrev pub invert_carry : FlagChoice → FlagChoice
-invert_carry choice = record choice { carry = elim choice.carry [ Some borrow ↦ Some (not borrow) | None ↦ None ] }
+invert_carry choice = record choice { carry = option_map not choice.carry }
 
 abbrev pub product_flags : Bool → FlagChoice
 product_flags large = record { carry = Some large; zero = None; sign = None; over = Some large; parity = None }

@@ -1,3 +1,5 @@
+ghost use Rattle.std.specs.Prelude.{◌≡◌};
+
 use crate::flag_rule::FlagRule;
 use crate::next::Next;
 use crate::op::Op;
@@ -17,7 +19,9 @@ pub enum Atom {
 }
 
 impl Default for Atom {
-    fn default() -> Self {
+    fn default() -> Self
+        ensures { result ≡ Atom.Const 0 }
+    {
         Atom::Const(0)
     }
 }
