@@ -67,7 +67,7 @@ shifted_below RotateRight w a count = a % 2 ^ w / 2 ^ count + a * 2 ^ (w - count
 abbrev pub shifted : Shift → ℕ → ℕ → ℕ → ℕ
 shifted shift w a count = shifted_below shift w a (count % w)
 
--- a factor, read with or without a sign
+-- what a product has above its lowest w bits
 abbrev pub high_of : Signs → ℕ → ℕ → ℕ → ℕ
 high_of Unsigned w a b = a % 2 ^ w * (b % 2 ^ w) / 2 ^ w
 high_of Signed w a b = unsigned w (int_shr (signed w a *ℤ signed w b) w)
@@ -77,7 +77,7 @@ high_of SignedUnsigned w a b = unsigned w (int_shr (signed w a *ℤ pos (b % 2 ^
 abbrev pub double : ℕ → ℕ → ℕ → ℕ
 double w a b = b % 2 ^ w * 2 ^ w + a % 2 ^ w
 
--- whether a number divided by c gives a quotient of w bits
+-- whether c isn't 0 and goes into a number less than 2 ^ w times, or as a signed number so that the quotient has w bits
 abbrev pub divides : ℕ → ℕ → ℕ → Bool
 divides w n c = nat_lt 0 (c % 2 ^ w) && nat_lt (n / (c % 2 ^ w)) (2 ^ w)
 

@@ -23,7 +23,7 @@ MovesRegister effect register k =
     (past : ℕ) (before after : State) → IsState before → register < 33 → Applies effect past before after
     → reg_of after register ≡ moved_by (reg_of before register) k
 
--- each step makes an eight-byte store whose value is a copy of the register
+-- the effect stores eight bytes, and their value is a copy of the register: on its form, and not by chance
 pub record StoresCopy (effect : Effect) (register : ℕ) : Type 0 where
   pub access : Access
   pub value : Value
