@@ -1,0 +1,11 @@
+pub mod Numbers
+pub mod Memory
+pub mod Bytes
+pub mod Operations
+pub mod Values
+pub mod FlagsAfter
+pub mod Applies
+pub mod Flow
+pub mod Steps
+pub mod OperationCases
+pub mod FlagCases
