@@ -1,5 +1,5 @@
 -- A source, cut into its pieces: the tokens, and the places that are refused.
-use Rattle.std.specs.Prelude.{ℕ, zero, suc, Bool, true, false, List, [], ◌∷◌, ◌==◌, length, take, drop, if◌then◌else◌}
+use Rattle.std.specs.Prelude.{ℕ, zero, suc, Bool, true, false, List, [], ◌∷◌, ◌++◌, ◌==◌, length, take, drop, if◌then◌else◌}
 use Rattle.asm_lex.specs.declared.token.Kind.{Kind}
 use Rattle.asm_lex.specs.declared.token.Kind.TheVariants.{End}
 use Rattle.asm_lex.specs.declared.token.Token.{Token}
@@ -47,20 +47,23 @@ pub record Cut : Type 0 where
 abbrev pub end_at : ℕ → Point → Cut
 end_at file point = record { tokens = token_at file point End (newline ∷ []) ∷ []; faults = [] }
 
--- what a piece adds to the tokens and the refused places behind it
-abbrev pub with_class : ℕ → Point → Class → ℕ → Cut → Cut
-with_class file point Gap len others = others
-with_class file point (Part kind) len others = record {
-  tokens = token_at file point kind (take len point.rest) ∷ others.tokens;
-  faults = others.faults;
-}
-with_class file point (Wrong cause) len others = record {
-  tokens = others.tokens;
-  faults = record { line = point.line; cause = cause } ∷ others.faults;
-}
+-- the token that a piece with this text is, if it is one
+abbrev pub tokens_at : ℕ → Point → Class → List ℕ → List Token
+tokens_at file point Gap text = []
+tokens_at file point (Part kind) text = token_at file point kind text ∷ []
+tokens_at file point (Wrong cause) text = []
 
+abbrev pub faults_at : Point → Class → List Fault
+faults_at point Gap = []
+faults_at point (Part kind) = []
+faults_at point (Wrong cause) = record { line = point.line; cause = cause } ∷ []
+
+-- a piece before the cut of what stands behind it
 abbrev pub with_piece : ℕ → Point → Piece → Cut → Cut
-with_piece file point piece others = with_class file point piece.class piece.len others
+with_piece file point piece others = record {
+  tokens = tokens_at file point piece.class (take piece.len point.rest) ++ others.tokens;
+  faults = faults_at point piece.class ++ others.faults;
+}
 
 -- the cut from a place on, of which there are at most this many pieces
 unfoldable pub cut_within : ℕ → ℕ → Point → Cut

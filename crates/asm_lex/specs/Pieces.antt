@@ -1,6 +1,6 @@
 -- What the bytes at a place begin with: white space or a comment, a token, or something that is refused. A source is
 -- one row of such pieces.
-use Rattle.std.specs.Prelude.{ℕ, List, ◌==◌, ◌||◌, nat_lt, length, take, Option, Some, None, if◌then◌else◌}
+use Rattle.std.specs.Prelude.{ℕ, Bool, List, ◌+◌, ◌==◌, ◌||◌, nat_lt, length, take, Option, Some, None, if◌then◌else◌}
 use Rattle.asm_lex.specs.declared.token.Kind.TheVariants as kinds
 use Rattle.asm_lex.specs.declared.piece.Piece.{Piece}
 use Rattle.asm_lex.specs.declared.piece.Class.{Class}
@@ -9,32 +9,32 @@ use Rattle.asm_lex.specs.declared.piece.Cause.TheVariants.{Open, Form, Stray}
 use Rattle.asm_lex.specs.Characters.{newline, quote, star, slash, semicolon, backslash, is_space, is_digit, first, begins}
 use Rattle.asm_lex.specs.Words.{run_len}
 use Rattle.asm_lex.specs.Numbers.{number_value}
-use Rattle.asm_lex.specs.Texts.{text_len, are_escapes, inside}
-use Rattle.asm_lex.specs.Comments.{line_len, comment_len}
+use Rattle.asm_lex.specs.Texts.{closing, are_escapes, inside}
+use Rattle.asm_lex.specs.Comments.{line_len, comment_closing}
 use Rattle.asm_lex.specs.Signs.{sign_len}
 
 abbrev pub piece : Class → ℕ → Piece
 piece class len = record { class = class; len = len }
 
 -- a comment that is open reaches to the end of all
-abbrev pub comment_piece_of : ℕ → Option ℕ → Piece
-comment_piece_of all (Some len) = piece Gap len
-comment_piece_of all None = piece (Wrong Open) all
+abbrev pub comment_piece_of : List ℕ → Option ℕ → Piece
+comment_piece_of bytes (Some end) = piece Gap (end + 2)
+comment_piece_of bytes None = piece (Wrong Open) (length bytes)
 
 unfoldable pub comment_piece : List ℕ → Piece
-comment_piece bytes = comment_piece_of (length bytes) (comment_len bytes)
+comment_piece bytes = comment_piece_of bytes (comment_closing bytes)
 
--- a text of this length, which is refused where an escape in it has no known form
-abbrev pub closed_text : ℕ → List ℕ → Piece
-closed_text len bytes = if are_escapes 0 (inside (take len bytes)) then piece (Part kinds.Text) len else piece (Wrong Form) len
+-- a text is refused where an escape in it has no known form
+abbrev pub text_class : Bool → Class
+text_class known = if known then Part kinds.Text else Wrong Form
 
 -- a text that is open reaches to the end of its line
 abbrev pub text_piece_of : List ℕ → Option ℕ → Piece
-text_piece_of bytes (Some len) = closed_text len bytes
+text_piece_of bytes (Some end) = piece (text_class (are_escapes 0 (inside end bytes))) (end + 1)
 text_piece_of bytes None = piece (Wrong Open) (line_len bytes)
 
 unfoldable pub text_piece : List ℕ → Piece
-text_piece bytes = text_piece_of bytes (text_len bytes)
+text_piece bytes = text_piece_of bytes (closing bytes)
 
 abbrev pub number_piece_of : ℕ → Option ℕ → Piece
 number_piece_of len (Some value) = piece (Part (kinds.Number value)) len

@@ -4,7 +4,7 @@ use Rattle.std.specs.Prelude.{ℕ, Bool, true, false, List, [], ◌∷◌, ◌+�
 use Rattle.asm_lex.specs.Characters.{newline, quote, backslash, is_hex_digit, first}
 
 -- where a text ends behind its closing quote, counted from a place `at` bytes before these bytes of it; `None` where
--- its line ends first. A byte that is escaped closes nothing
+-- its line ends first. A byte behind a backslash closes nothing
 unfoldable pub text_end : ℕ → Bool → List ℕ → Option ℕ
 text_end at escaped [] = None
 text_end at escaped (byte ∷ bytes) =
@@ -28,18 +28,19 @@ are_escapes skip (byte ∷ bytes) =
     else (if byte == backslash then (if escape_len bytes == 0 then false else are_escapes (escape_len bytes) bytes)
     else are_escapes 0 bytes)
 
--- what stands between the quotes of a text of this length
-abbrev pub inside : List ℕ → List ℕ
-inside text = take (length text - 2) (drop 1 text)
+-- where the text at the front ends behind its closing quote, counted from behind its opening quote
+abbrev pub closing : List ℕ → Option ℕ
+closing bytes = text_end 0 false (drop 1 bytes)
 
--- how many bytes the text at the front takes, its quotes included; `None` where it is open
-abbrev pub text_len : List ℕ → Option ℕ
-text_len bytes = text_end 1 false (drop 1 bytes)
+-- what stands between the quotes of a text that ends there
+abbrev pub inside : ℕ → List ℕ → List ℕ
+inside end bytes = take (end - 1) (drop 1 bytes)
 
-abbrev pub is_some_of : Option ℕ → ℕ → Bool
-is_some_of None value = false
-is_some_of (Some found) value = found == value
+abbrev pub ends_at : ℕ → Option ℕ → Bool
+ends_at place None = false
+ends_at place (Some end) = end == place
 
 -- the whole is one text
 abbrev pub is_text : List ℕ → Bool
-is_text text = first text == quote && is_some_of (text_len text) (length text) && are_escapes 0 (inside text)
+is_text text =
+    first text == quote && ends_at (length text - 1) (closing text) && are_escapes 0 (inside (length text - 1) text)

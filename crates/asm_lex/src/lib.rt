@@ -2,10 +2,17 @@
 //! `cmd/asm/internal/lex`, which takes more kinds).
 #![tactic(auto)]
 
+mod comments;
 mod fault;
 mod lexer;
+mod lines;
+mod numbers;
 mod piece;
+mod signs;
+mod slices;
+mod texts;
 mod token;
+mod words;
 
 pub use fault::LexNo;
 pub use lexer::lex;
