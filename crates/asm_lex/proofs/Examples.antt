@@ -4,9 +4,9 @@ use Rattle.goasm_base.specs.Numbers.{number_of, digit_value}
 use Rattle.asm_lex.specs.declared.token.Kind.{Kind}
 use Rattle.asm_lex.specs.declared.token.Kind.TheVariants.{Word, Number, Text, Sign, End}
 use Rattle.asm_lex.specs.declared.token.Token.{Token}
-use Rattle.asm_lex.specs.declared.piece.Cause.{Cause}
-use Rattle.asm_lex.specs.declared.piece.Cause.TheVariants.{Open, Form, Stray}
-use Rattle.asm_lex.specs.declared.piece.Fault.{Fault}
+use Rattle.asm_lex.specs.declared.fault.Cause.{Cause}
+use Rattle.asm_lex.specs.declared.fault.Cause.TheVariants.{Open, Form, Stray}
+use Rattle.asm_lex.specs.declared.fault.Fault.{Fault}
 use Rattle.asm_lex.specs.Lines.{line_after}
 use Rattle.asm_lex.specs.Words.{char_len, run_end}
 use Rattle.asm_lex.specs.Numbers.{number_value}
@@ -113,4 +113,3 @@ no_digits = refl
 last_backslash : fault (92 ∷ []) ≡ at 1 Stray
 unfolding cut_of cut_within piece_of token_piece word_piece number_piece text_piece comment_piece sign_len is_long_sign is_short_sign line_end comment_end text_end escape_len are_escapes number_value number_of digit_value char_len run_end line_after
 last_backslash = refl
-

@@ -1,2 +1,7 @@
 mod Examples
 mod LoopLemmas
+mod CutLemmas
+mod WordLemmas
+mod TextLemmas
+mod SignLemmas
+mod FormLemmas

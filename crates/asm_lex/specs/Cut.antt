@@ -7,7 +7,7 @@ use Rattle.asm_lex.specs.declared.token.Tokens.{Tokens}
 use Rattle.asm_lex.specs.declared.piece.Piece.{Piece}
 use Rattle.asm_lex.specs.declared.piece.Class.{Class}
 use Rattle.asm_lex.specs.declared.piece.Class.TheVariants.{Gap, Part, Wrong}
-use Rattle.asm_lex.specs.declared.piece.Fault.{Fault}
+use Rattle.asm_lex.specs.declared.fault.Fault.{Fault}
 use Rattle.asm_lex.specs.Characters.{newline}
 use Rattle.asm_lex.specs.Lines.{line_after}
 use Rattle.asm_lex.specs.Pieces.{piece_of}

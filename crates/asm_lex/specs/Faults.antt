@@ -4,11 +4,11 @@ use Rattle.std.specs.Prelude.{◌≡◌, ℕ, Bool, List, [], ◌∷◌, ◌++�
 use Rattle.std.specs.Option.{option_map}
 use Rattle.std.specs.Str.Lossy.{utf8_valid_len}
 use Rattle.goasm_base.specs.declared.pos.Pos.{Pos}
-use Rattle.asm_lex.specs.declared.piece.Cause.{Cause}
-use Rattle.asm_lex.specs.declared.piece.Cause.TheVariants.{NotUtf8, Open, Form, Stray}
-use Rattle.asm_lex.specs.declared.piece.Fault.{Fault}
-use Rattle.asm_lex.specs.declared.fault.LexNo.{LexNo}
-use Rattle.asm_lex.specs.declared.fault.LexNo.TheVariants.{L1, L2, L3, L4, Memory}
+use Rattle.asm_lex.specs.declared.fault.Cause.{Cause}
+use Rattle.asm_lex.specs.declared.fault.Cause.TheVariants.{NotUtf8, Open, Form, Stray}
+use Rattle.asm_lex.specs.declared.fault.Fault.{Fault}
+use Rattle.asm_lex.specs.declared.refusal.LexNo.{LexNo}
+use Rattle.asm_lex.specs.declared.refusal.LexNo.TheVariants.{L1, L2, L3, L4, Memory}
 use Rattle.asm_lex.specs.Lines.{line_after}
 use Rattle.asm_lex.specs.Cut.{cut_of}
 

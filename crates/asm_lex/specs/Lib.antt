@@ -9,3 +9,4 @@ pub mod Pieces
 pub mod Cut
 pub mod Faults
 pub mod Form
+pub mod Places

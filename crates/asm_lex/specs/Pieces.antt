@@ -5,7 +5,7 @@ use Rattle.asm_lex.specs.declared.token.Kind.TheVariants as kinds
 use Rattle.asm_lex.specs.declared.piece.Piece.{Piece}
 use Rattle.asm_lex.specs.declared.piece.Class.{Class}
 use Rattle.asm_lex.specs.declared.piece.Class.TheVariants.{Gap, Part, Wrong}
-use Rattle.asm_lex.specs.declared.piece.Cause.TheVariants.{Open, Form, Stray}
+use Rattle.asm_lex.specs.declared.fault.Cause.TheVariants.{Open, Form, Stray}
 use Rattle.asm_lex.specs.Characters.{newline, quote, star, slash, semicolon, backslash, is_space, is_digit, first, begins}
 use Rattle.asm_lex.specs.Words.{run_len}
 use Rattle.asm_lex.specs.Numbers.{number_value}

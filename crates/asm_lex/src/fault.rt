@@ -1,30 +1,63 @@
-use goasm_base::{Memory, Pos};
-use std::alloc::{AllocError, AllocFailed};
-use thiserror::Error;
+ghost use Rattle.std.specs.Prelude.{◌≡◌};
+ghost use Rattle.asm_lex.specs.Faults as spec;
 
-/// Why a source has no tokens: its first refusal by lines, and at one line the one with the lowest number.
-/// What follows a refusal on its line is judged too.
-#[derive(Clone, Copy, Debug, PartialEq, Eq, Error)]
-pub enum LexNo {
-    /// The bytes aren't UTF-8, at the line of the first byte that isn't.
-    #[error("L1")]
-    L1(Pos),
-    /// A text isn't closed on its line, or a comment isn't closed at all, at the line where it begins.
-    #[error("L2")]
-    L2(Pos),
-    /// A number or an escape in a text has no known form.
-    #[error("L3")]
-    L3(Pos),
-    /// A character can't stand there. A zero byte can't stand anywhere.
-    #[error("L4")]
-    L4(Pos),
-    /// There was no memory for the tokens.
-    #[error("out of memory")]
-    Memory,
+use crate::refusal::LexNo;
+use goasm_base::Pos;
+
+/// Why a place is refused.
+#[derive(Clone, Copy)]
+pub enum Cause {
+    NotUtf8,
+    Open,
+    Form,
+    Stray,
 }
 
-impl From<Memory> for LexNo {
-    fn from(_: Memory) -> Self {
-        LexNo::Memory
+/// A place that is refused.
+#[derive(Clone, Copy)]
+pub struct Fault {
+    pub line: u32,
+    pub cause: Cause,
+}
+
+/// The first of a fault that was found and another: by lines, and at one line the one with the lowest number.
+pub fn earlier(best: Option<Fault>, fault: Fault) -> Fault
+    ensures { result ≡ spec.earlier best fault }
+{
+    match best {
+        Some(best) if !comes_before(fault, best) => best,
+        _ => fault,
+    }
+}
+
+fn comes_before(one: Fault, other: Fault) -> bool
+    ensures { result ≡ spec.comes_before one other }
+{
+    one.line < other.line || (one.line == other.line && number(one.cause) < number(other.cause))
+}
+
+fn number(cause: Cause) -> u8
+    ensures { result ≡ spec.number cause }
+{
+    match cause {
+        Cause::NotUtf8 => 1,
+        Cause::Open => 2,
+        Cause::Form => 3,
+        Cause::Stray => 4,
+    }
+}
+
+pub fn refusal(file: u32, fault: Fault) -> LexNo
+    ensures { result ≡ spec.refusal file fault }
+{
+    let pos = Pos {
+        file,
+        line: fault.line,
+    };
+    match fault.cause {
+        Cause::NotUtf8 => LexNo::L1(pos),
+        Cause::Open => LexNo::L2(pos),
+        Cause::Form => LexNo::L3(pos),
+        Cause::Stray => LexNo::L4(pos),
     }
 }

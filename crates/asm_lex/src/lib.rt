@@ -3,17 +3,20 @@
 #![tactic(auto)]
 
 mod comments;
+mod cut;
 mod fault;
 mod lexer;
 mod lines;
 mod numbers;
 mod piece;
+mod refusal;
 mod signs;
 mod slices;
 mod texts;
 mod token;
+mod whole;
 mod words;
 
-pub use fault::LexNo;
 pub use lexer::lex;
+pub use refusal::LexNo;
 pub use token::{Kind, Token, Tokens};

@@ -3,6 +3,7 @@ ghost use Rattle.asm_lex.specs.Texts.{are_escapes};
 ghost use Rattle.asm_lex.specs.Pieces as spec;
 
 use crate::comments::{comment_end, line_len};
+use crate::fault::Cause;
 use crate::numbers::number_value;
 use crate::signs::sign_len;
 use crate::slices::behind;
@@ -24,22 +25,6 @@ pub enum Class {
     Gap,
     Part(Kind),
     Wrong(Cause),
-}
-
-/// Why a piece is refused.
-#[derive(Clone, Copy)]
-pub enum Cause {
-    NotUtf8,
-    Open,
-    Form,
-    Stray,
-}
-
-/// A place that is refused.
-#[derive(Clone, Copy)]
-pub struct Fault {
-    pub line: u32,
-    pub cause: Cause,
 }
 
 #[tactic(auto, unfolding(crate::specs::Pieces::piece_of))]
