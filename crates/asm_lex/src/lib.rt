@@ -20,3 +20,6 @@ mod words;
 pub use lexer::lex;
 pub use refusal::LexNo;
 pub use token::{Kind, Token, Tokens};
+
+#[cfg(test)]
+mod tests;
