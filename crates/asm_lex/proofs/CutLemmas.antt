@@ -1,4 +1,4 @@
-use Rattle.std.proofs.Common.{◌≡◌, ℕ, zero, suc, ◌+◌, ◌-◌, ◌<◌, ◌≤◌, Bool, true, false, nat_eq, List, [], ◌∷◌, ◌++◌, length, take, Option, Some, None, refl, sym, ◌∙◌, ap, append_assoc, arith}
+use Rattle.std.proofs.Common.{◌≡◌, ℕ, zero, suc, ◌+◌, ◌-◌, ◌<◌, ◌≤◌, false, nat_eq, List, [], ◌∷◌, ◌++◌, length, take, Option, Some, None, refl, sym, ◌∙◌, ap, append_assoc, arith}
 use Rattle.std.proofs.lemmas.Str.{utf8_valid_len-IsUtf8}
 use Rattle.std.specs.Str.{IsUtf8}
 use Rattle.std.specs.Str.Lossy.{utf8_valid_len}
@@ -6,7 +6,7 @@ use Rattle.asm_lex.specs.declared.token.Token.{Token}
 use Rattle.asm_lex.specs.declared.fault.Fault.{Fault}
 use Rattle.asm_lex.specs.declared.piece.Piece.{Piece}
 use Rattle.asm_lex.specs.Pieces.{piece_of}
-use Rattle.asm_lex.specs.Cut.{Point, Cut, behind, tokens_at, faults_at, end_at, with_piece, cut_within, cut_of}
+use Rattle.asm_lex.specs.Cut.{Point, behind, tokens_at, faults_at, end_at, with_piece, cut_within, cut_of}
 use Rattle.asm_lex.specs.Faults.{first_after, earlier, first_fault, faults_of, listed, utf8_fault, zero_fault}
 
 pub all_utf8 : (bytes : List ℕ) → IsUtf8 bytes → utf8_valid_len bytes ≡ length bytes

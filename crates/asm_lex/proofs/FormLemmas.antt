@@ -1,23 +1,21 @@
 -- What is cut has the form of tokens.
-use Rattle.std.proofs.Common.{◌≡◌, ℕ, zero, suc, ◌+◌, ◌-◌, ◌<◌, ◌≤◌, ◌==◌, Bool, true, false, ◌&&◌, ◌||◌, not, nat_eq, nat_lt, List, [], ◌∷◌, ◌++◌, length, take, drop, Option, Some, None, IsTrue, inl, inr, refl, sym, arith, add-one, if◌then◌else◌}
+use Rattle.std.proofs.Common.{◌≡◌, ℕ, zero, suc, ◌+◌, ◌-◌, ◌<◌, ◌≤◌, ◌==◌, Bool, true, false, ◌||◌, nat_eq, nat_lt, List, [], ◌∷◌, ◌++◌, length, take, Option, Some, None, IsTrue, inl, inr, refl, arith, add-one, if◌then◌else◌}
 use Rattle.std.proofs.Math.Seq.{take-nil}
 use Rattle.std.proofs.lemmas.Bool.{cases_Bool, eq-eqb, ltb-true}
 use Rattle.std.proofs.lemmas.List.{get_or-take, length-take-le}
 use Rattle.std.proofs.lemmas.List.Elements.{All-from_recursion}
 use Rattle.std.specs.List.{AllByRecursion}
-use Rattle.asm_lex.specs.declared.token.Kind.{Kind}
 use Rattle.asm_lex.specs.declared.token.Kind.TheVariants as kinds
 use Rattle.asm_lex.specs.declared.token.Token.{Token}
 use Rattle.asm_lex.specs.declared.piece.Piece.{Piece}
 use Rattle.asm_lex.specs.declared.piece.Class.{Class}
 use Rattle.asm_lex.specs.declared.piece.Class.TheVariants.{Gap, Part, Wrong}
-use Rattle.asm_lex.specs.declared.fault.Cause.TheVariants.{Open, Form, Stray}
 use Rattle.asm_lex.specs.Characters.{newline, quote, star, slash, semicolon, backslash, is_space, is_digit, first, begins}
 use Rattle.asm_lex.specs.Words.{run_len, is_word}
 use Rattle.asm_lex.specs.Numbers.{number_value}
 use Rattle.asm_lex.specs.Texts.{text_end, closing, are_escapes, inside, is_text}
-use Rattle.asm_lex.specs.Comments.{line_len, comment_closing}
-use Rattle.asm_lex.specs.Signs.{sign_len, is_sign}
+use Rattle.asm_lex.specs.Comments.{comment_closing}
+use Rattle.asm_lex.specs.Signs.{sign_len}
 use Rattle.asm_lex.specs.Pieces.{piece, comment_piece_of, comment_piece, text_class, text_piece_of, text_piece, number_piece_of, number_piece, word_piece, token_piece, piece_of}
 use Rattle.asm_lex.specs.Cut.{Point, token_at, tokens_at, behind, cut_within, cut_of, start, tokens_of}
 use Rattle.asm_lex.specs.Form.{HasForm, EndsWithEnd, AreTokens}

@@ -5,3 +5,4 @@ mod WordLemmas
 mod TextLemmas
 mod SignLemmas
 mod FormLemmas
+mod FirstLemmas

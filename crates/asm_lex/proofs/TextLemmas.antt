@@ -1,5 +1,5 @@
 -- A text is a text by itself, without what stands behind it.
-use Rattle.std.proofs.Common.{◌≡◌, ℕ, zero, suc, ◌+◌, ◌-◌, ◌<◌, ◌≤◌, ◌==◌, Bool, true, false, List, [], ◌∷◌, length, take, Option, Some, None, refl, sym, arith, if◌then◌else◌}
+use Rattle.std.proofs.Common.{◌≡◌, ℕ, zero, suc, ◌+◌, ◌<◌, ◌≤◌, ◌==◌, Bool, true, false, List, [], ◌∷◌, length, take, Option, Some, None, arith, if◌then◌else◌}
 use Rattle.asm_lex.specs.Characters.{newline, quote, backslash}
 use Rattle.asm_lex.specs.Texts.{text_end}
 

@@ -1,5 +1,5 @@
 -- The characters of a source, each by its byte.
-use Rattle.std.specs.Prelude.{ℕ, Bool, List, ◌+◌, ◌==◌, ◌&&◌, ◌||◌, nat_le, slice_index}
+use Rattle.std.specs.Prelude.{ℕ, Bool, List, ◌==◌, ◌&&◌, ◌||◌, nat_le, slice_index}
 
 abbrev pub newline : ℕ
 newline = 10

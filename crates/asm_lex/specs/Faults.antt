@@ -1,6 +1,6 @@
 -- What is refused in a source, and which refusal comes first: by lines, and at one line the one with the lowest
 -- number.
-use Rattle.std.specs.Prelude.{◌≡◌, ℕ, Bool, List, [], ◌∷◌, ◌++◌, ◌==◌, ◌&&◌, ◌||◌, nat_lt, length, take, position, Option, Some, None, Result, Ok, Err, if◌then◌else◌}
+use Rattle.std.specs.Prelude.{◌≡◌, ℕ, Bool, false, All, Contains, List, [], ◌∷◌, ◌++◌, ◌==◌, ◌&&◌, ◌||◌, nat_lt, length, take, position, Option, Some, None, Result, Ok, Err, if◌then◌else◌}
 use Rattle.std.specs.Option.{option_map}
 use Rattle.std.specs.Str.Lossy.{utf8_valid_len}
 use Rattle.goasm_base.specs.declared.pos.Pos.{Pos}
@@ -70,6 +70,15 @@ refusal file fault = refusal_at fault.cause (record { file = file; line = fault.
 abbrev pub refusal_of : ℕ → List ℕ → Option LexNo
 refusal_of file bytes = option_map (refusal file) (first_fault (faults_of file bytes))
 
+-- a fault of the list, before which none of it comes
+pub record IsFirst (faults : List Fault) (fault : Fault) : Type 0 where
+  pub listed : Contains faults fault
+  pub first : All (λ other. comes_before other fault ≡ false) faults
+
+-- the refusal is that of such a fault
+abbrev pub RefusesFirst : ℕ → List Fault → LexNo → Type 0
+RefusesFirst file faults found = (fault : Fault) × (refusal file fault ≡ found) × IsFirst faults fault
+
 -- want of memory may come anywhere
 abbrev pub Refuses : LexNo → Option LexNo → Type 0
 Refuses Memory first = Unit {0}
@@ -82,3 +91,11 @@ Refuses (L4 pos) first = first ≡ Some (L4 pos)
 abbrev pub Judges : {T : Type 0} → Result T LexNo → Option LexNo → Type 0
 Judges (Ok read) first = first ≡ None
 Judges (Err found) first = Refuses found first
+
+-- the first fault of a source by its order alone
+abbrev pub IsFirstRefusal : ℕ → List Fault → LexNo → Type 0
+IsFirstRefusal file faults Memory = Unit {0}
+IsFirstRefusal file faults (L1 pos) = RefusesFirst file faults (L1 pos)
+IsFirstRefusal file faults (L2 pos) = RefusesFirst file faults (L2 pos)
+IsFirstRefusal file faults (L3 pos) = RefusesFirst file faults (L3 pos)
+IsFirstRefusal file faults (L4 pos) = RefusesFirst file faults (L4 pos)

@@ -1,6 +1,6 @@
 -- Words: an ASCII letter, `_`, U+00B7 or U+2215 (which stand for `.` and `/` in a name), and then as many of
 -- these and of digits as follow.
-use Rattle.std.specs.Prelude.{ℕ, zero, Bool, List, [], ◌∷◌, ◌+◌, ◌-◌, ◌==◌, ◌&&◌, ◌||◌, not, nat_lt, length, slice_index, if◌then◌else◌}
+use Rattle.std.specs.Prelude.{ℕ, Bool, List, [], ◌∷◌, ◌+◌, ◌-◌, ◌==◌, ◌&&◌, ◌||◌, not, nat_lt, length, slice_index, if◌then◌else◌}
 use Rattle.asm_lex.specs.Characters.{is_digit, is_letter, first, begins}
 
 -- U+00B7 and U+2215 in UTF-8

@@ -1,6 +1,6 @@
-ghost use Rattle.std.specs.Prelude.{◌≡◌, ◌++◌, IfOk};
+ghost use Rattle.std.specs.Prelude.{◌≡◌, [], ◌++◌, IfOk, IfErr, OnOk};
 ghost use Rattle.asm_lex.specs.Cut.{tokens_of};
-ghost use Rattle.asm_lex.specs.Faults.{Judges, refusal_of, first_fault, listed};
+ghost use Rattle.asm_lex.specs.Faults.{Judges, IsFirstRefusal, refusal_of, faults_of, first_fault, listed};
 ghost use Rattle.asm_lex.specs.Faults as spec;
 ghost use Rattle.asm_lex.specs.Form.{AreTokens};
 
@@ -17,9 +17,11 @@ use std::alloc::Global;
 /// They are refused exactly where something in them is, with the first refusal: by lines, where an open text or
 /// comment counts at the line where it begins, and at one line the refusal with the lowest number. Only want of
 /// memory may come in place of any answer.
-#[tactic(auto, using(crate::proofs::CutLemmas::first_of_all, crate::proofs::FormLemmas::cut_formed))]
+#[tactic(auto, using(crate::proofs::CutLemmas::first_of_all, crate::proofs::FormLemmas::cut_formed, crate::proofs::FirstLemmas::refused_first, crate::proofs::FirstLemmas::none_found))]
 pub fn lex(alloc: Global, file: u32, bytes: &[u8]) -> Result<Tokens, LexNo>
     ensures exact { Judges result (refusal_of file bytes.now) }
+    ensures first { IfErr result (IsFirstRefusal file (faults_of file bytes.now)) }
+    ensures none { OnOk result (faults_of file bytes.now ≡ []) }
     ensures tokens { IfOk result (λ tokens. tokens ≡ tokens_of file bytes.now) }
     ensures formed { IfOk result (λ tokens. AreTokens tokens) }
 {

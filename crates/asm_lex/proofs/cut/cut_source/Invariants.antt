@@ -1,4 +1,4 @@
-use Rattle.std.proofs.Common.{◌≡◌, ◌-◌, ◌++◌, ◌≤◌, length}
+use Rattle.std.proofs.Common.{◌≡◌, ◌-◌, ◌++◌, length}
 use Rattle.asm_lex.specs.Cut.{cut_of, cut_within}
 use Rattle.asm_lex.specs.Faults.{first_after}
 use Rattle.asm_lex.specs.Places.{point_of}
