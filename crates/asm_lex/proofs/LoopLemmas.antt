@@ -1,8 +1,8 @@
-use Rattle.std.proofs.Common.{◌≡◌, ℕ, ◌+◌, ◌-◌, ◌<◌, true, false, nat_lt, nat_eq, List, ◌∷◌, length, drop, get_or, refl, add-one, drop-cons}
-use Rattle.std.proofs.lemmas.Bool.{lt-ltb}
+use Rattle.std.proofs.Common.{◌≡◌, ◌≢◌, ℕ, ◌+◌, ◌-◌, ◌<◌, ◌≤◌, true, false, nat_lt, nat_eq, List, [], ◌∷◌, length, drop, get_or, refl, arith, add-one, drop-cons, if◌then◌else◌}
+use Rattle.std.proofs.lemmas.Bool.{lt-ltb, ne_eqb}
 use Rattle.asm_lex.specs.Words.{char_len, run_end}
 use Rattle.asm_lex.specs.Texts.{escape_len, are_escapes}
-use Rattle.asm_lex.specs.Comments.{closes, comment_end}
+use Rattle.asm_lex.specs.Comments.{line_end, closes, comment_end}
 
 -- what is left begins with the byte at its place
 front : (i : ℕ) (bytes : List ℕ) → i < length bytes → drop i bytes ≡ get_or bytes i 0 ∷ drop (i + 1) bytes
@@ -60,3 +60,22 @@ pub escapes_past : (i : ℕ) (bytes : List ℕ) → i < length bytes → nat_eq 
     → are_escapes 0 (drop (i + 1) bytes) ≡ are_escapes 0 (drop i bytes)
 unfolding are_escapes
 escapes_past i bytes inside other = rw (front i bytes inside, other) refl
+
+line_bound : (at : ℕ) (bytes : List ℕ) → at ≤ line_end at bytes
+unfolding line_end
+line_bound at [] = omega arith
+line_bound at (byte ∷ bytes) =
+    let later : at + 1 ≤ line_end (at + 1) bytes = line_bound (at + 1) bytes in
+    elim (nat_eq byte 10) as (λ ends. at ≤ (if ends then at else line_end (at + 1) bytes)) [
+      | true ↦ omega arith
+      | false ↦ omega arith
+    ]
+
+-- a line whose end doesn't stand at once has a byte
+pub line_goes_on : (bytes : List ℕ) → 0 < length bytes → get_or bytes 0 0 ≢ 10 → 0 < line_end 0 bytes
+unfolding line_end
+line_goes_on [] some other = absurd (omega arith)
+line_goes_on (byte ∷ bytes) some other =
+    let test : nat_eq byte 10 ≡ false = ne_eqb byte 10 other in
+    let later : 0 + 1 ≤ line_end (0 + 1) bytes = line_bound (0 + 1) bytes in
+    rw test (omega arith)

@@ -1,10 +1,11 @@
 -- A run of characters that can stand in a word is a run by itself, without what stands behind it.
-use Rattle.std.proofs.Common.{◌≡◌, ℕ, zero, suc, ◌+◌, ◌-◌, ◌<◌, ◌≤◌, ◌==◌, Bool, true, false, ◌&&◌, ◌||◌, nat_eq, nat_lt, List, [], ◌∷◌, length, take, get_or, inl, inr, lit<, refl, arith, if◌then◌else◌}
+use Rattle.std.proofs.Common.{◌≡◌, ℕ, zero, suc, ◌+◌, ◌-◌, ◌<◌, ◌≤◌, ◌==◌, Bool, true, false, ◌&&◌, ◌||◌, nat_eq, nat_lt, List, [], ◌∷◌, length, take, get_or, inl, inr, lit<, IsTrue, refl, arith, if◌then◌else◌}
 use Rattle.std.proofs.Math.Seq.{take-nil}
+use Rattle.std.proofs.Math.Bool.{or-true}
 use Rattle.std.proofs.lemmas.Bool.{cases_Bool, cases_lt, lt-ltb, eqb-true}
 use Rattle.std.proofs.lemmas.List.{get_or-take}
 use Rattle.std.proofs.Math.ListN.{get_or-eq_default}
-use Rattle.asm_lex.specs.Characters.{is_letter, is_digit, begins}
+use Rattle.asm_lex.specs.Characters.{is_letter, is_digit, first, begins}
 use Rattle.asm_lex.specs.Words.{is_middle_dot, is_division_slash, char_len, run_end, run_len}
 
 -- how long a character is, by the tests on it
@@ -123,3 +124,12 @@ run_taken_at at skip (byte ∷ bytes) (suc len) end sum is =
 
 pub run_taken : (bytes : List ℕ) → run_len (take (run_len bytes) bytes) ≡ run_len bytes
 run_taken bytes = run_taken_at 0 0 bytes (run_len bytes) (run_len bytes) (omega arith) refl
+
+-- a digit can stand in a word
+pub digit_runs : (bytes : List ℕ) → IsTrue (is_digit (first bytes)) → 0 < run_len bytes
+unfolding run_end char_len
+digit_runs [] digit = cc
+digit_runs (byte ∷ bytes) digit =
+    let test : (is_letter byte || is_digit byte) ≡ true = rw digit (or-true (is_letter byte)) in
+    let later = run_bound 1 0 bytes in
+    rw test (omega (arith, later.0))

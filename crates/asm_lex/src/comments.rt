@@ -1,12 +1,14 @@
-ghost use Rattle.std.specs.Prelude.{◌≡◌, ◌+◌, ◌≤◌, length, IsTrue, IfSome};
+ghost use Rattle.std.specs.Prelude.{◌≡◌, ◌≢◌, ◌+◌, ◌<◌, ◌≤◌, length, IsTrue, IfSome};
+ghost use Rattle.asm_lex.specs.Characters.{first, newline};
 ghost use Rattle.asm_lex.specs.Comments as spec;
 
 use crate::slices::behind;
 
 /// How many bytes are left of the line, without its newline.
-#[tactic(auto, unfolding(crate::specs::Comments::line_end))]
+#[tactic(auto, unfolding(crate::specs::Comments::line_end), using(crate::proofs::LoopLemmas::line_goes_on))]
 pub fn line_len(bytes: &[u8]) -> usize
     ensures len { result ≡ spec.line_len bytes.now }
+    ensures some { 0 < length bytes.now → first bytes.now ≢ newline → 0 < result }
     ensures within { result ≤ length bytes.now }
 {
     for (at, byte) in bytes.iter().enumerate() {

@@ -38,7 +38,8 @@ pub fn cut_source(
     known: Option<Fault>,
 ) -> Result<Cut, Memory>
     ensures tokens { IfOk result (λ cut. cut.tokens.items ≡ (cut_of file bytes.now).tokens) }
-    ensures fault { IfOk result (λ cut. cut.fault ≡ first_after known (cut_of file bytes.now).faults) }
+    ensures fault { IfOk result
+        (λ cut. cut.fault ≡ first_after known (cut_of file bytes.now).faults) }
 {
     let mut cut = Cut {
         tokens: Vec::new(alloc),
@@ -90,8 +91,10 @@ impl Cut {
         piece: Piece,
     ) -> Result<(), Memory>
         requires { piece.len ≤ length place.now.rest.now }
-        ensures tokens { OnOk result (self.new.tokens.items ≡ self.old.tokens.items ++ tokens_at file (point_of place.now) piece.class (take piece.len place.now.rest.now)) }
-        ensures fault { OnOk result (self.new.fault ≡ first_after self.old.fault (faults_at (point_of place.now) piece.class)) }
+        ensures tokens { OnOk result (self.new.tokens.items ≡ self.old.tokens.items
+            ++ tokens_at file (point_of place.now) piece.class (take piece.len place.now.rest.now)) }
+        ensures fault { OnOk result (self.new.fault
+            ≡ first_after self.old.fault (faults_at (point_of place.now) piece.class)) }
     {
         match piece.class {
             Class::Gap => {}
@@ -112,7 +115,8 @@ impl Cut {
 
     // Adds the end of the file, which counts as one newline more.
     fn end(&mut self, alloc: Global, file: u32, place: &Place<'_>) -> Result<(), Memory>
-        ensures tokens { OnOk result (self.new.tokens.items ≡ self.old.tokens.items ++ (spec.end_at file (point_of place.now)).tokens) }
+        ensures tokens { OnOk result (self.new.tokens.items
+            ≡ self.old.tokens.items ++ (spec.end_at file (point_of place.now)).tokens) }
         ensures fault { OnOk result (self.new.fault ≡ self.old.fault) }
     {
         let token = token_at(alloc, file, place, Kind::End, b"\n")?;

@@ -4,11 +4,11 @@ ghost use Rattle.asm_lex.specs.Faults.{Judges, IsFirstRefusal, refusal_of, fault
 ghost use Rattle.asm_lex.specs.Faults as spec;
 ghost use Rattle.asm_lex.specs.Form.{AreTokens};
 
+use crate::byte_faults::{utf8_fault, zero_fault};
 use crate::cut::cut_source;
 use crate::fault::{Fault, earlier, refusal};
 use crate::refusal::LexNo;
 use crate::token::Tokens;
-use crate::whole::{utf8_fault, zero_fault};
 use goasm_base::List;
 use std::alloc::Global;
 
@@ -37,7 +37,8 @@ pub fn lex(alloc: Global, file: u32, bytes: &[u8]) -> Result<Tokens, LexNo>
 
 // The first fault that may stand in a comment or a text too.
 fn fault_anywhere(bytes: &[u8]) -> Option<Fault>
-    ensures { result ≡ first_fault (listed (spec.utf8_fault bytes.now) ++ listed (spec.zero_fault bytes.now)) }
+    ensures { result
+        ≡ first_fault (listed (spec.utf8_fault bytes.now) ++ listed (spec.zero_fault bytes.now)) }
 {
     let utf8 = utf8_fault(bytes);
     match zero_fault(bytes) {

@@ -2,6 +2,7 @@
 //! `cmd/asm/internal/lex`, which takes more kinds).
 #![tactic(auto)]
 
+mod byte_faults;
 mod comments;
 mod cut;
 mod fault;
@@ -14,7 +15,6 @@ mod signs;
 mod slices;
 mod texts;
 mod token;
-mod whole;
 mod words;
 
 pub use lexer::lex;

@@ -1,5 +1,6 @@
-ghost use Rattle.std.specs.Prelude.{◌≡◌, ◌<◌, ◌≤◌, length};
+ghost use Rattle.std.specs.Prelude.{◌≡◌, ◌<◌, ◌≤◌, length, IsTrue};
 ghost use Rattle.asm_lex.specs.Texts.{are_escapes};
+ghost use Rattle.asm_lex.specs.Characters.{first, is_digit, quote};
 ghost use Rattle.asm_lex.specs.Pieces as spec;
 
 use crate::comments::{comment_end, line_len};
@@ -15,7 +16,7 @@ use crate::words::run_len;
 #[derive(Clone, Copy)]
 pub struct Piece {
     pub class: Class,
-    /// How many bytes it takes.
+    /// How many bytes it takes, at least one.
     pub len: usize,
 }
 
@@ -23,7 +24,9 @@ pub struct Piece {
 pub enum Class {
     /// White space or a comment.
     Gap,
+    /// A token.
     Part(Kind),
+    /// What is refused.
     Wrong(Cause),
 }
 
@@ -31,6 +34,7 @@ pub enum Class {
 pub fn piece_of(bytes: &[u8]) -> Piece
     requires { 0 < length bytes.now }
     ensures piece { result ≡ spec.piece_of bytes.now }
+    ensures some { 0 < result.len }
     ensures within { result.len ≤ length bytes.now }
 {
     match bytes {
@@ -55,6 +59,7 @@ fn gap(len: usize) -> Piece
 fn comment_piece(bytes: &[u8]) -> Piece
     requires { 2 ≤ length bytes.now }
     ensures piece { result ≡ spec.comment_piece bytes.now }
+    ensures some { 0 < result.len }
     ensures within { result.len ≤ length bytes.now }
 {
     match comment_end(behind(bytes, 2)) {
@@ -76,6 +81,7 @@ fn wrong(cause: Cause, len: usize) -> Piece
 fn token_piece(bytes: &[u8]) -> Piece
     requires { 0 < length bytes.now }
     ensures piece { result ≡ spec.token_piece bytes.now }
+    ensures some { 0 < result.len }
     ensures within { result.len ≤ length bytes.now }
 {
     match bytes {
@@ -97,8 +103,9 @@ fn part(kind: Kind, len: usize) -> Piece
 
 #[tactic(auto, unfolding(crate::specs::Pieces::text_piece))]
 fn text_piece(bytes: &[u8]) -> Piece
-    requires { 0 < length bytes.now }
+    requires { first bytes.now ≡ quote }
     ensures piece { result ≡ spec.text_piece bytes.now }
+    ensures some { 0 < result.len }
     ensures within { result.len ≤ length bytes.now }
 {
     let inner = behind(bytes, 1);
@@ -120,7 +127,9 @@ fn closed_text(inside: &[u8], len: usize) -> Piece
 
 #[tactic(auto, unfolding(crate::specs::Pieces::number_piece))]
 fn number_piece(bytes: &[u8]) -> Piece
+    requires { IsTrue (is_digit (first bytes.now)) }
     ensures piece { result ≡ spec.number_piece bytes.now }
+    ensures some { 0 < result.len }
     ensures within { result.len ≤ length bytes.now }
 {
     let len = run_len(bytes);
@@ -134,6 +143,7 @@ fn number_piece(bytes: &[u8]) -> Piece
 fn word_piece(bytes: &[u8]) -> Piece
     requires { 0 < length bytes.now }
     ensures piece { result ≡ spec.word_piece bytes.now }
+    ensures some { 0 < result.len }
     ensures within { result.len ≤ length bytes.now }
 {
     let word = run_len(bytes);

@@ -1,12 +1,14 @@
-ghost use Rattle.std.specs.Prelude.{◌≡◌, ◌≤◌, length};
+ghost use Rattle.std.specs.Prelude.{◌≡◌, ◌<◌, ◌≤◌, length, IsTrue};
+ghost use Rattle.asm_lex.specs.Characters.{first, is_digit};
 ghost use Rattle.asm_lex.specs.Words as spec;
 
 use crate::slices::behind;
 
 /// How many bytes at the front belong to characters that can stand in a word.
-#[tactic(auto, unfolding(crate::specs::Words::run_end), using(crate::proofs::LoopLemmas::run_within, crate::proofs::LoopLemmas::run_on, crate::proofs::LoopLemmas::run_stops))]
+#[tactic(auto, unfolding(crate::specs::Words::run_end), using(crate::proofs::LoopLemmas::run_within, crate::proofs::LoopLemmas::run_on, crate::proofs::LoopLemmas::run_stops, crate::proofs::WordLemmas::digit_runs))]
 pub fn run_len(bytes: &[u8]) -> usize
     ensures len { result ≡ spec.run_len bytes.now }
+    ensures digit { IsTrue (is_digit (first bytes.now)) → 0 < result }
     ensures within { result ≤ length bytes.now }
 {
     let mut skip: usize = 0;

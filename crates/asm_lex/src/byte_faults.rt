@@ -1,4 +1,4 @@
-// What is refused wherever it stands in a source.
+// Bytes that are refused wherever they stand in a source.
 ghost use Rattle.std.specs.Prelude.{◌≡◌, ◌≤◌, length, take, position};
 ghost use Rattle.std.specs.Option.{option_map};
 ghost use Rattle.asm_lex.specs.Faults as spec;
