@@ -96,7 +96,7 @@ first_found (next ∷ faults) fault is =
       | inl first ↦ (0, omega arith, sym first)
       | inr inside ↦ later faults found.0 next inside
     ] in
-    rw (← same) (record { listed = there; first = All-from_recursion (λ other. comes_before other found.0 ≡ false) (next ∷ faults) least })
+    rw (← same) (record { there = there; first = All-from_recursion (λ other. comes_before other found.0 ≡ false) (next ∷ faults) least })
 
 -- where it finds none, there is none
 pub none_found : (faults : List Fault) → first_fault faults ≡ None → faults ≡ []

@@ -33,10 +33,10 @@ is_letter byte = (nat_le 65 byte && nat_le byte 90) || (nat_le 97 byte && nat_le
 abbrev pub is_hex_digit : ℕ → Bool
 is_hex_digit byte = is_digit byte || (nat_le 65 byte && nat_le byte 70) || (nat_le 97 byte && nat_le byte 102)
 
--- the first byte, and a byte further on; 0 past the end
+-- the first byte; 0 where there is none
 abbrev pub first : List ℕ → ℕ
 first bytes = slice_index bytes 0
 
--- the bytes begin with these two, neither of them 0
+-- the bytes begin with these two, of which neither is 0
 abbrev pub begins : ℕ → ℕ → List ℕ → Bool
 begins one two bytes = first bytes == one && slice_index bytes 1 == two

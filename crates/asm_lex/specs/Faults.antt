@@ -31,7 +31,7 @@ abbrev pub listed : Option Fault → List Fault
 listed None = []
 listed (Some fault) = fault ∷ []
 
--- what is refused in a source
+-- all that is refused in a source, also behind the first that is
 abbrev pub faults_of : ℕ → List ℕ → List Fault
 faults_of file bytes = listed (utf8_fault bytes) ++ (listed (zero_fault bytes) ++ (cut_of file bytes).faults)
 
@@ -44,7 +44,8 @@ number Stray = 4
 
 -- by lines, and at one line the lowest number
 abbrev pub comes_before : Fault → Fault → Bool
-comes_before one other = nat_lt one.line other.line || (one.line == other.line && nat_lt (number one.cause) (number other.cause))
+comes_before one other =
+    nat_lt one.line other.line || (one.line == other.line && nat_lt (number one.cause) (number other.cause))
 
 abbrev pub earlier : Option Fault → Fault → Fault
 earlier None fault = fault
@@ -72,10 +73,10 @@ refusal_of file bytes = option_map (refusal file) (first_fault (faults_of file b
 
 -- a fault of the list, before which none of it comes
 pub record IsFirst (faults : List Fault) (fault : Fault) : Type 0 where
-  pub listed : Contains faults fault
+  pub there : Contains faults fault
   pub first : All (λ other. comes_before other fault ≡ false) faults
 
--- the refusal is that of such a fault
+-- the refusal is that of a first fault of the list
 abbrev pub RefusesFirst : ℕ → List Fault → LexNo → Type 0
 RefusesFirst file faults found = (fault : Fault) × (refusal file fault ≡ found) × IsFirst faults fault
 
@@ -92,7 +93,7 @@ abbrev pub Judges : {T : Type 0} → Result T LexNo → Option LexNo → Type 0
 Judges (Ok read) first = first ≡ None
 Judges (Err found) first = Refuses found first
 
--- the first fault of a source by its order alone
+-- the refusal is that of a first fault of the list; want of memory may come anywhere
 abbrev pub IsFirstRefusal : ℕ → List Fault → LexNo → Type 0
 IsFirstRefusal file faults Memory = Unit {0}
 IsFirstRefusal file faults (L1 pos) = RefusesFirst file faults (L1 pos)

@@ -13,7 +13,8 @@ text_end at escaped (byte ∷ bytes) =
     else (if byte == quote then Some (at + 1)
     else text_end (at + 1) (byte == backslash) bytes))
 
--- how many bytes the escape takes behind its backslash; 0 where there is none of this form
+-- how many bytes the escape takes behind its backslash; 0 where there is none of a known form. The letters are n, t
+-- and x
 unfoldable pub escape_len : List ℕ → ℕ
 escape_len bytes =
     if first bytes == backslash || first bytes == quote || first bytes == 110 || first bytes == 116 then 1
