@@ -1,0 +1,12 @@
+pub mod Lines
+pub mod Characters
+pub mod Words
+pub mod Numbers
+pub mod Texts
+pub mod Comments
+pub mod Signs
+pub mod Pieces
+pub mod Cut
+pub mod Faults
+pub mod Form
+pub mod Places

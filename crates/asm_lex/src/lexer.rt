@@ -1,0 +1,48 @@
+ghost use Rattle.std.specs.Prelude.{◌≡◌, [], ◌++◌, IfOk, IfErr, OnOk};
+ghost use Rattle.asm_lex.specs.Cut.{tokens_of};
+ghost use Rattle.asm_lex.specs.Faults.{Judges, IsFirstRefusal, refusal_of, faults_of, first_fault, listed};
+ghost use Rattle.asm_lex.specs.Faults as spec;
+ghost use Rattle.asm_lex.specs.Form.{AreTokens};
+
+use crate::byte_faults::{utf8_fault, zero_fault};
+use crate::cut::cut_source;
+use crate::fault::{Fault, earlier, refusal};
+use crate::refusal::LexNo;
+use crate::token::Tokens;
+use goasm_base::List;
+use std::alloc::Global;
+
+/// The tokens of the bytes of a file, which has this number in the build.
+///
+/// They are refused exactly where something in them is, with the first refusal: by lines, where an open text or
+/// comment counts at the line where it begins, and at one line the refusal with the lowest number. Only want of
+/// memory may come in place of any answer.
+#[tactic(auto, using(crate::proofs::CutLemmas::first_of_all, crate::proofs::FormLemmas::cut_formed, crate::proofs::FirstLemmas::refused_first, crate::proofs::FirstLemmas::none_found))]
+pub fn lex(alloc: Global, file: u32, bytes: &[u8]) -> Result<Tokens, LexNo>
+    ensures exact { Judges result (refusal_of file bytes.now) }
+    ensures first { IfErr result (IsFirstRefusal file (faults_of file bytes.now)) }
+    ensures none { OnOk result (faults_of file bytes.now ≡ []) }
+    ensures tokens { IfOk result (λ tokens. tokens ≡ tokens_of file bytes.now) }
+    ensures formed { IfOk result (λ tokens. AreTokens tokens) }
+{
+    let cut = cut_source(alloc, file, bytes, fault_anywhere(bytes))?;
+    match cut.fault {
+        Some(fault) => Err(refusal(file, fault)),
+        None => Ok(Tokens {
+            file,
+            list: List::new(cut.tokens),
+        }),
+    }
+}
+
+// The first fault that may stand in a comment or a text too.
+fn fault_anywhere(bytes: &[u8]) -> Option<Fault>
+    ensures { result
+        ≡ first_fault (listed (spec.utf8_fault bytes.now) ++ listed (spec.zero_fault bytes.now)) }
+{
+    let utf8 = utf8_fault(bytes);
+    match zero_fault(bytes) {
+        Some(zero) => Some(earlier(utf8, zero)),
+        None => utf8,
+    }
+}
