@@ -1,4 +1,4 @@
-ghost use Rattle.std.specs.Prelude.{◌≡◌, ℕ, ◌^◌, ◌<◌, ◌≤◌, length, IfOk, IfSome, IfNone, MatchResult};
+ghost use Rattle.std.specs.Prelude.{◌≡◌, ℕ, ◌^◌, ◌<◌, ◌≤◌, ◌↔◌, None, length, IfOk, IfSome, IfNone, MatchResult};
 ghost use Rattle.std.specs.Option.{option_map};
 ghost use Rattle.pclntab.specs.Places.{func_count};
 ghost use Rattle.pclntab.specs.Table.{IsTable};
@@ -36,6 +36,7 @@ impl<'a> Table<'a> {
         ensures table { IfOk result (λ table. table ≡ bytes.now) }
         ensures form { MatchResult result (λ _. IsTable bytes.now) (λ _. IsTable bytes.now → ⊥) }
         ensures exact { Judges result (table_fault bytes.now) }
+        ensures faultless { IsTable bytes.now ↔ (table_fault bytes.now ≡ None) }
     {
         judge(bytes)?;
         Ok(Table { bytes })
