@@ -1,2 +1,3 @@
 mod PlanLemmas
 mod StatusLemmas
+mod Examples

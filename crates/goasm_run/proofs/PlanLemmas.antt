@@ -1,6 +1,6 @@
-use Rattle.std.proofs.Common.{◌≡◌, ℕ, List, ◌+◌, ◌≤◌, length, Option, Some, None, refl, sym, ap, ◌∙◌}
-use Rattle.goasm_base.specs.Shelf.{Files, read_of, Reads}
-use Rattle.goasm_run.specs.Plan.{Plan, Ask, Tell, Refuse, Malformed, Ending, Text, Refusal, NoForm, ComesTo, AsksFor, ending_of, after_read}
+use Rattle.std.proofs.Common.{◌≡◌, ℕ, List, Option, Some, refl, sym, ap, ◌∙◌}
+use Rattle.goasm_base.specs.Shelf.{Files}
+use Rattle.goasm_run.specs.Plan.{Plan, Ask, Tell, Refuse, Malformed, Ending, Text, Refusal, NoForm, ComesTo, AsksFor, ending_of}
 
 -- over a shelf that tells its files a plan comes to one ending alone
 pub comes_to_one : (files : Files) (plan : Plan) (ending : Ending)

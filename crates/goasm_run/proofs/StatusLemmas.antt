@@ -1,9 +1,9 @@
 use Rattle.std.proofs.Common.{◌≡◌, ◌⊎◌, ℕ, List, Option, Some, inl, inr, refl, sym, ap, ◌∙◌}
 use Rattle.goasm_base.specs.Shelf.{Files, Rose}
-use Rattle.goasm_base.specs.Sink.{with_more, TookPrefix}
+use Rattle.goasm_base.specs.Sink.{with_more}
 use Rattle.goasm_run.specs.declared.stop.Stop.{Stop}
 use Rattle.goasm_run.specs.declared.stop.Stop.TheVariants as stops
-use Rattle.goasm_run.specs.Plan.{Plan, Malformed, Text, Refusal, NoForm, ComesTo, AsksFor, ending_of}
+use Rattle.goasm_run.specs.Plan.{Plan, Malformed, Text, Refusal, NoForm, ending_of}
 use Rattle.goasm_run.specs.Stops.{WordsStopped}
 use Rattle.goasm_run.specs.Statuses.{Unread, Told}
 use Rattle.goasm_run.proofs.PlanLemmas.{no_text, one_refusal, malformed_unrefused, malformed_unread}

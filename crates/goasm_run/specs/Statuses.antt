@@ -4,7 +4,7 @@ use Rattle.goasm_base.specs.Shelf.{Files, Rose}
 use Rattle.goasm_base.specs.Sink.{with_more, TookPrefix}
 use Rattle.goasm_run.specs.declared.stop.Stop.{Stop}
 use Rattle.goasm_run.specs.declared.stop.Stop.TheVariants as stops
-use Rattle.goasm_run.specs.Plan.{Plan, Malformed, Text, Refusal, ComesTo, AsksFor}
+use Rattle.goasm_run.specs.Plan.{Plan, Malformed, Refusal, ComesTo, AsksFor}
 use Rattle.goasm_run.specs.Lines.{words_line, memory_line, unread_line}
 
 -- the plan asks for a file of this name, and a read of that name failed between these counts of faults

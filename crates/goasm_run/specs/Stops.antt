@@ -3,7 +3,7 @@ use Rattle.std.specs.Prelude.{◌≡◌, ◌≢◌, ℕ, List, Option}
 use Rattle.goasm_base.specs.Shelf.{Files, Rose}
 use Rattle.goasm_run.specs.declared.stop.Stop.{Stop}
 use Rattle.goasm_run.specs.declared.stop.Stop.TheVariants as stops
-use Rattle.goasm_run.specs.Plan.{Plan, Tell, Refuse, Malformed, ComesTo, AsksFor, Refusal}
+use Rattle.goasm_run.specs.Plan.{Plan, Refuse, Malformed, ComesTo, AsksFor, Refusal}
 
 -- a read of this name ended so, between these counts of faults
 abbrev pub ReadStopped : (List ℕ → ℕ) → (List ℕ → ℕ) → List ℕ → Stop → Type 0

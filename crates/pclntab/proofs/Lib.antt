@@ -2,3 +2,4 @@ mod BelowLemmas
 mod TextLemmas
 mod PcLemmas
 mod RangeLemmas
+mod Examples

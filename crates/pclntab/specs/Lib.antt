@@ -5,3 +5,4 @@ pub mod Table
 pub mod Faults
 pub mod Func
 pub mod Ready
+pub mod Worked
