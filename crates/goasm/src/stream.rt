@@ -1,4 +1,7 @@
-ghost use Rattle.std.specs.Prelude.{None};
+ghost use Rattle.std.specs.Prelude.{◌≡◌, ℕ, ◌≤◌, None, length, take, drop, OnOk, OnErr, IsTrue};
+ghost use Rattle.std.specs.Io.KnownBytes.{Appends};
+ghost use Rattle.goasm_base.specs.Shelf.{Rose};
+ghost use Rattle.goasm_base.specs.Sink.{with_more, TookPrefix};
 
 use goasm_base::{Failed, Sink};
 use std::io::Write;
@@ -30,13 +33,24 @@ impl<W: Write + Drop> Sink for Stream<W> {
     }
 }
 
+fn behind(bytes: &[u8], count: usize) -> &[u8]
+    requires { count ≤ length bytes.now }
+    ensures { result.now ≡ drop count bytes.now }
+{
+    &bytes[count..]
+}
+
 // Whether all of the bytes were written. A write that takes nothing of a piece has failed.
-fn write_all<W: Write>(writer: &mut W, bytes: &[u8]) -> bool {
+#[tactic(auto, using(crate::proofs::StreamLemmas::rest_behind, crate::proofs::StreamLemmas::wrote_behind))]
+fn write_all<W: Write>(writer: &mut W, bytes: &[u8]) -> bool
+    ensures all { IsTrue result → Appends (W.contents writer.old) (W.contents writer.new) bytes.now }
+    ensures part { (count : ℕ) × Appends (W.contents writer.old) (W.contents writer.new) (take count bytes.now) }
+{
     let mut rest = bytes;
     while !rest.is_empty() {
         match writer.write(rest) {
             Ok(0) | Err(_) => return false,
-            Ok(count) => rest = &rest[count..],
+            Ok(count) => rest = behind(rest, count),
         }
     }
     writer.flush().is_ok()
