@@ -24,7 +24,13 @@ pub fn same<T: Target>(a: &T::Instr, b: &T::Instr) -> bool
 {
     let first = T::spell(a);
     let second = T::spell(b);
-    first.as_slice() == second.as_slice()
+    is_equal(first.as_slice(), second.as_slice())
+}
+
+fn is_equal(first: &[u8], second: &[u8]) -> bool
+    ensures { IsTrue result ↔ (first.now ≡ second.now) }
+{
+    first == second
 }
 
 /// What the instruction does to the stack pointer and the link register at the address `pc`, and where the
