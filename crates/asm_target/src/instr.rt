@@ -4,6 +4,7 @@ ghost use Rattle.machine_effect.specs.Flow.{flow_of};
 ghost use Rattle.asm_target.specs.InstructionSet.{Begins, IsFirst};
 ghost use Rattle.asm_target.specs.Laws.{IsLength, IsStackDistance};
 
+use crate::compare::is_equal;
 use crate::target::Target;
 use machine_effect::{Flow, effect_flow};
 
@@ -25,12 +26,6 @@ pub fn same<T: Target>(a: &T::Instr, b: &T::Instr) -> bool
     let first = T::spell(a);
     let second = T::spell(b);
     is_equal(first.as_slice(), second.as_slice())
-}
-
-fn is_equal(first: &[u8], second: &[u8]) -> bool
-    ensures { IsTrue result ↔ (first.now ≡ second.now) }
-{
-    first == second
 }
 
 /// What the instruction does to the stack pointer and the link register at the address `pc`, and where the

@@ -4,10 +4,12 @@
 //! of a target than stands here.
 #![tactic(auto)]
 
+mod compare;
 mod instr;
 mod laws;
 mod target;
 
+pub use compare::begins_with;
 pub use instr::{first_instr, flow_at, same};
 pub use laws::one_listing;
 pub use target::{Spelled, Target};

@@ -1,5 +1,5 @@
 -- Effects and their parts.
-use Rattle.std.specs.Prelude.{ℕ, ℤ, pos, negsuc, [], ◌∷◌, ◌+◌, ◌%◌, ◌^◌, Some, None}
+use Rattle.std.specs.Prelude.{ℕ, ℤ, negsuc, [], ◌∷◌, ◌+◌, ◌%◌, ◌^◌, Some, None}
 use Rattle.std.specs.Int.{w64, cast_unsigned}
 use Rattle.machine_effect.specs.declared.effect.Effect.{Effect}
 use Rattle.machine_effect.specs.declared.effect.Access.{Access}

@@ -5,7 +5,7 @@ use crate::decode::decode;
 use crate::instr::Instr;
 use crate::make::{add_to_sp, copy, goal, going, push, writing};
 use arrayvec::ArrayVec;
-use asm_target::{Spelled, Target};
+use asm_target::{Spelled, Target, begins_with};
 use goasm_base::{Bytes, Memory, Text};
 use machine_effect::{Effect, Next, Shape};
 use std::alloc::Global;
@@ -75,10 +75,11 @@ impl Target for Sample {
         bytes
     }
 
+    #[tactic(auto, using(crate::specs::Laws::begins_read))]
     fn read(bytes: &[u8]) -> Option<(Instr, usize)> {
         let instr = decode(bytes)?;
         let spelled = Self::spell(&instr);
-        if bytes.starts_with(spelled.as_slice()) {
+        if begins_with(bytes, spelled.as_slice()) {
             Some((instr, spelled.len()))
         } else {
             None
