@@ -1,0 +1,2 @@
+pub mod InstructionSet
+pub mod Laws

@@ -1,0 +1,129 @@
+-- The laws of targets, for the sample.
+use Rattle.std.proofs.Common.{◌≡◌, ℕ, ℤ, List, ◌∷◌, ◌++◌, suc, ◌+◌, ◌-◌, ◌*◌, ◌/◌, ◌%◌, ◌^◌, ◌<◌, ◌≤◌, Some, length, drop, refl, ap, ◌∙◌, arith, rules, inl, subst}
+use Rattle.std.proofs.lemmas.Int.{to_z-of_z, ints}
+use Rattle.std.proofs.lemmas.Nat.{from_le_bytes-to_le_bytes_4}
+use Rattle.std.specs.Int.{w8, w32, w64, cast_signed, cast_unsigned, from_le_bytes, to_le_bytes}
+use Rattle.std.specs.Prelude.{pos, negsuc, slice_index, FitsSigned}
+use Rattle.machine_effect.specs.Numbers.{signed}
+use Rattle.std.proofs.lemmas.Bool.Decides.{nat_tests}
+use Rattle.asm_target.specs.InstructionSet.{Begins}
+use Rattle.asm_target.specs.Laws as laws
+use Rattle.asm_target_sample.specs.declared.instr.Instr.{Instr}
+use Rattle.asm_target_sample.specs.declared.instr.Instr.TheVariants.{Nop, Move, Push, AddSp, Jump, Return}
+use Rattle.asm_target_sample.specs.declared.register.Register.{Register}
+use Rattle.asm_target_sample.specs.declared.register.Register.TheVariants.{Ax, Cx, Dx, Bx, Sp, Bp, Si, Di}
+use Rattle.asm_target_sample.specs.Register.{number_of, register_of}
+use Rattle.machine_effect.specs.Flow.{flow_of}
+use Rattle.asm_target_sample.specs.Instr.{spelling_of, Fits, sample}
+use Rattle.asm_target_sample.specs.Reading.{reading}
+
+pub architecture : laws.IsArchitecture (record { machine = 62; quantum = 1; shape = laws.amd64.shape })
+architecture = inl refl
+
+in_bytes : (n : ℕ) → 1 ≤ n → n ≤ 15 → laws.IsLength 1 n
+in_bytes n least most = record { least = least; most = most; whole = omega arith }
+
+pub lengths : laws.HasLengths sample Fits 1
+lengths Nop fits = in_bytes 1 (omega arith) (omega arith)
+lengths (Move from to) fits = in_bytes 3 (omega arith) (omega arith)
+lengths (Push register) fits = in_bytes 1 (omega arith) (omega arith)
+lengths (AddSp constant) fits = in_bytes 4 (omega arith) (omega arith)
+lengths (Jump distance) fits = in_bytes 5 (omega arith) (omega arith)
+lengths Return fits = in_bytes 1 (omega arith) (omega arith)
+
+number_below : (register : Register) → number_of register < 8
+number_below Ax = omega arith
+number_below Cx = omega arith
+number_below Dx = omega arith
+number_below Bx = omega arith
+number_below Sp = omega arith
+number_below Bp = omega arith
+number_below Si = omega arith
+number_below Di = omega arith
+
+register_of-number_of : (register : Register) → register_of (number_of register) ≡ register
+register_of-number_of Ax = refl
+register_of-number_of Cx = refl
+register_of-number_of Dx = refl
+register_of-number_of Bx = refl
+register_of-number_of Sp = refl
+register_of-number_of Bp = refl
+register_of-number_of Si = refl
+register_of-number_of Di = refl
+
+distance_back : (distance : ℤ) → FitsSigned w32 distance
+    → cast_signed w32 (from_le_bytes w32 (to_le_bytes w32 (cast_unsigned w32 distance))) ≡ distance
+distance_back distance fits =
+    let bound : cast_unsigned w32 distance < 2 ^ 32 = omega (arith, ints) in
+    ap (cast_signed w32) (from_le_bytes-to_le_bytes_4 (cast_unsigned w32 distance) bound)
+    ∙ to_z-of_z w32 distance fits
+
+-- what is spelled is read, whatever follows
+pub reads : (i : Instr) (rest : List ℕ) → Fits i → reading (spelling_of i ++ rest) ≡ Some i
+unfolding reading
+reads Nop rest fits = grind (arith, nat_tests)
+reads (Move from to) rest fits =
+    let f : number_of from < 8 = number_below from in
+    let t : number_of to < 8 = number_below to in
+    let high : (0xc0 + 8 * number_of from + number_of to) / 8 % 8 ≡ number_of from = omega arith in
+    let low : (0xc0 + 8 * number_of from + number_of to) % 8 ≡ number_of to = omega arith in
+    grind (arith, nat_tests, register_of-number_of)
+reads (Push register) rest fits =
+    let r : number_of register < 8 = number_below register in
+    let high : (0x50 + number_of register) / 8 ≡ 10 = omega arith in
+    let low : (0x50 + number_of register) % 8 ≡ number_of register = omega arith in
+    grind (arith, nat_tests, register_of-number_of)
+reads (AddSp constant) rest fits = rw (to_z-of_z w8 constant fits) (grind (arith, nat_tests))
+reads (Jump distance) rest fits = rw (distance_back distance fits) (grind (arith, nat_tests))
+reads Return rest fits = grind (arith, nat_tests)
+
+-- bytes that begin with an instruction are read as it
+pub begins_read : (i : Instr) (bytes : List ℕ) → Fits i → Begins sample bytes i → reading bytes ≡ Some i
+begins_read i bytes fits begins = ap reading begins ∙ reads i (drop (length (spelling_of i)) bytes) fits
+
+pub prefix_free : laws.IsPrefixFree sample Fits
+prefix_free i j bytes fi fj bi bj = cc (begins_read i bytes fi bi, begins_read j bytes fj bj)
+
+first_byte : (a b : ℕ) (xs ys : List ℕ) → a ∷ xs ≡ b ∷ ys → a ≡ b
+first_byte a b xs ys e = ap (λ s. slice_index s 0) e
+
+pub no_padding : laws.AvoidsPadding sample Fits 62
+no_padding Nop rest fits begins = omega (arith, first_byte 0xcc 0x90 rest _ begins)
+no_padding (Move from to) rest fits begins = omega (arith, first_byte 0xcc 0x48 rest _ begins)
+no_padding (Push register) rest fits begins =
+    let below : number_of register < 8 = number_below register in
+    omega (arith, first_byte 0xcc (0x50 + number_of register) rest _ begins)
+no_padding (AddSp constant) rest fits begins = omega (arith, first_byte 0xcc 0x48 rest _ begins)
+no_padding (Jump distance) rest fits begins = omega (arith, first_byte 0xcc 0xe9 rest _ begins)
+no_padding Return rest fits begins = omega (arith, first_byte 0xcc 0xc3 rest _ begins)
+
+small_constant : (constant : ℤ) → FitsSigned w8 constant
+    → laws.IsStackDistance (signed 64 (cast_unsigned w64 constant))
+small_constant (pos n) fits =
+    let low : n < 128 = omega (arith, ints) in
+    let same : signed 64 n ≡ pos n = grind (arith, nat_tests) in
+    rw same (record { least = search rules; most = search rules })
+small_constant (negsuc n) fits =
+    let low : n < 128 = omega (arith, ints) in
+    let same : signed 64 (18446744073709551616 - suc n) ≡ negsuc n = grind (arith, nat_tests) in
+    rw same (record { least = search rules; most = search rules })
+
+pub small_moves : laws.HasSmallMoves sample Fits laws.amd64.shape
+unfolding flow_of
+small_moves Nop pc k fits moved = cc
+small_moves (Move from Ax) pc k fits moved = cc
+small_moves (Move from Cx) pc k fits moved = cc
+small_moves (Move from Dx) pc k fits moved = cc
+small_moves (Move from Bx) pc k fits moved = cc
+small_moves (Move from Sp) pc k fits moved = cc
+small_moves (Move from Bp) pc k fits moved = cc
+small_moves (Move from Si) pc k fits moved = cc
+small_moves (Move from Di) pc k fits moved = cc
+small_moves (Push register) pc k fits moved =
+    let by : negsuc 7 ≡ k = cc moved in
+    subst laws.IsStackDistance by (record { least = search rules; most = search rules })
+small_moves (AddSp constant) pc k fits moved =
+    let by : signed 64 (cast_unsigned w64 constant) ≡ k = cc moved in
+    subst laws.IsStackDistance by (small_constant constant fits)
+small_moves (Jump distance) pc k fits moved = cc
+small_moves Return pc k fits moved = cc
