@@ -1,2 +1,3 @@
+pub mod Architecture
 pub mod InstructionSet
 pub mod Laws

@@ -1,5 +1,6 @@
 ghost use Rattle.std.specs.Prelude.{◌≡◌, ℕ, IfOk, IfSome, Some};
 ghost use Rattle.machine_effect.specs.declared.flow.Shape.{Shape};
+ghost use Rattle.asm_target.specs.Architecture.{IsArchitecture};
 ghost use Rattle.asm_target.specs.InstructionSet.{InstructionSet, IsFirst};
 ghost use Rattle.asm_target.specs.Laws as laws;
 
@@ -63,8 +64,10 @@ pub trait Target {
     fn show(alloc: Global, instr: &Self::Instr, pc: u64) -> Result<Bytes, Memory>
         ensures { IfOk result (λ text. text ≡ instructions.text instr.now pc) };
 
+    // Laws. They stay below the last method: a ghost member above one is data.
+
     /// The machine, the quantum and the shape are those of amd64, arm64 or riscv64.
-    ghost architecture: { laws.IsArchitecture (record { machine = MACHINE; quantum = QUANTUM; shape = SHAPE }) };
+    ghost architecture: { IsArchitecture (record { machine = MACHINE; quantum = QUANTUM; shape = SHAPE }) };
 
     /// A spelling has 1 to 15 bytes, in whole quanta.
     ghost lengths: { laws.HasLengths instructions fits QUANTUM };

@@ -1,11 +1,13 @@
 -- The laws of targets, for the sample.
+use Rattle.std.specs.Int.{w8, w32, w64, cast_signed, cast_unsigned, from_le_bytes, to_le_bytes}
+use Rattle.std.specs.Prelude.{pos, negsuc, slice_index, FitsSigned}
 use Rattle.std.proofs.Common.{◌≡◌, ℕ, ℤ, List, ◌∷◌, ◌++◌, suc, ◌+◌, ◌-◌, ◌*◌, ◌/◌, ◌%◌, ◌^◌, ◌<◌, ◌≤◌, Some, length, drop, refl, ap, ◌∙◌, arith, rules, inl, subst}
 use Rattle.std.proofs.lemmas.Int.{to_z-of_z, ints}
 use Rattle.std.proofs.lemmas.Nat.{from_le_bytes-to_le_bytes_4}
-use Rattle.std.specs.Int.{w8, w32, w64, cast_signed, cast_unsigned, from_le_bytes, to_le_bytes}
-use Rattle.std.specs.Prelude.{pos, negsuc, slice_index, FitsSigned}
-use Rattle.machine_effect.specs.Numbers.{signed}
 use Rattle.std.proofs.lemmas.Bool.Decides.{nat_tests}
+use Rattle.machine_effect.specs.Numbers.{signed}
+use Rattle.machine_effect.specs.Flow.{flow_of}
+use Rattle.asm_target.specs.Architecture.{IsArchitecture, amd64}
 use Rattle.asm_target.specs.InstructionSet.{Begins}
 use Rattle.asm_target.specs.Laws as laws
 use Rattle.asm_target_sample.specs.declared.instr.Instr.{Instr}
@@ -13,13 +15,13 @@ use Rattle.asm_target_sample.specs.declared.instr.Instr.TheVariants.{Nop, Move, 
 use Rattle.asm_target_sample.specs.declared.register.Register.{Register}
 use Rattle.asm_target_sample.specs.declared.register.Register.TheVariants.{Ax, Cx, Dx, Bx, Sp, Bp, Si, Di}
 use Rattle.asm_target_sample.specs.Register.{number_of, register_of}
-use Rattle.machine_effect.specs.Flow.{flow_of}
 use Rattle.asm_target_sample.specs.Instr.{spelling_of, Fits, sample}
 use Rattle.asm_target_sample.specs.Reading.{reading}
 
-pub architecture : laws.IsArchitecture (record { machine = 62; quantum = 1; shape = laws.amd64.shape })
+pub architecture : IsArchitecture (record { machine = 62; quantum = 1; shape = amd64.shape })
 architecture = inl refl
 
+-- any number of bytes is whole quanta of one byte
 in_bytes : (n : ℕ) → 1 ≤ n → n ≤ 15 → laws.IsLength 1 n
 in_bytes n least most = record { least = least; most = most; whole = omega arith }
 
@@ -51,6 +53,7 @@ register_of-number_of Bp = refl
 register_of-number_of Si = refl
 register_of-number_of Di = refl
 
+-- four bytes give their number back
 distance_back : (distance : ℤ) → FitsSigned w32 distance
     → cast_signed w32 (from_le_bytes w32 (to_le_bytes w32 (cast_unsigned w32 distance))) ≡ distance
 distance_back distance fits =
@@ -84,6 +87,7 @@ begins_read i bytes fits begins = ap reading begins ∙ reads i (drop (length (s
 pub prefix_free : laws.IsPrefixFree sample Fits
 prefix_free i j bytes fi fj bi bj = cc (begins_read i bytes fi bi, begins_read j bytes fj bj)
 
+-- no first byte is that of the padding
 first_byte : (a b : ℕ) (xs ys : List ℕ) → a ∷ xs ≡ b ∷ ys → a ≡ b
 first_byte a b xs ys e = ap (λ s. slice_index s 0) e
 
@@ -97,6 +101,7 @@ no_padding (AddSp constant) rest fits begins = omega (arith, first_byte 0xcc 0x4
 no_padding (Jump distance) rest fits begins = omega (arith, first_byte 0xcc 0xe9 rest _ begins)
 no_padding Return rest fits begins = omega (arith, first_byte 0xcc 0xc3 rest _ begins)
 
+-- a constant of one byte
 small_constant : (constant : ℤ) → FitsSigned w8 constant
     → laws.IsStackDistance (signed 64 (cast_unsigned w64 constant))
 small_constant (pos n) fits =
@@ -108,7 +113,7 @@ small_constant (negsuc n) fits =
     let same : signed 64 (18446744073709551616 - suc n) ≡ negsuc n = grind (arith, nat_tests) in
     rw same (record { least = search rules; most = search rules })
 
-pub small_moves : laws.HasSmallMoves sample Fits laws.amd64.shape
+pub small_moves : laws.HasSmallMoves sample Fits amd64.shape
 unfolding flow_of
 small_moves Nop pc k fits moved = cc
 small_moves (Move from Ax) pc k fits moved = cc

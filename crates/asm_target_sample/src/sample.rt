@@ -15,7 +15,7 @@ pub struct Sample;
 
 impl Target for Sample {
     ghost use Rattle.asm_target_sample.specs.Instr.{sample, Fits};
-    ghost use Rattle.asm_target.specs.Laws as laws;
+    ghost use Rattle.asm_target.specs.Architecture.{amd64};
     ghost use Rattle.asm_target_sample.specs.Laws as proofs;
 
     type Instr = Instr;
@@ -30,7 +30,7 @@ impl Target for Sample {
 
     ghost QUANTUM = { 1 };
 
-    ghost SHAPE = { laws.amd64.shape };
+    ghost SHAPE = { amd64.shape };
 
     ghost instructions = { sample };
 
