@@ -6,3 +6,4 @@ pub mod Lengths
 pub mod Shapes
 pub mod Effects
 pub mod Texts
+pub mod Moves

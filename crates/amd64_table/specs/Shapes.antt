@@ -380,11 +380,12 @@ store_wide_effect from to end = storing 16 end to (copy_of (atom.Wide (xmm_numbe
 unfoldable pub xor_wide_effect : Xmm → Xmm → Effect
 xor_wide_effect from to = widening None (xmm_number to, wide_value.Xor (xmm_number to) (xmm_number from))
 
--- register 16 of the state is the base of thread-local storage
+-- the word below the base of thread-local storage, which is register 16 of the state
+abbrev pub tls_word : Access
+tls_word = record { width = 8; base = atom.Reg 16; index = nothing; scale = 1; disp = negsuc 7 }
+
 unfoldable pub load_tls_effect : Reg → Effect
-load_tls_effect to =
-    computing ((number_of to, copy_of atom.Loaded 64) ∷ [])
-    (Some (record { width = 8; base = atom.Reg 16; index = nothing; scale = 1; disp = negsuc 7 })) None flags.Keep
+load_tls_effect to = computing ((number_of to, copy_of atom.Loaded 64) ∷ []) (Some tls_word) None flags.Keep
 
 -- the sign of AX in each bit, which goes into DX
 abbrev pub sign_fill : ℕ → Value

@@ -1,5 +1,8 @@
-ghost use Rattle.std.specs.Prelude.{◌≡◌};
+ghost use Rattle.std.specs.Prelude.{◌≡◌, IsTrue};
+ghost use Rattle.machine_effect.specs.Flow.{flow_of};
 ghost use Rattle.amd64_table.specs.Effects as effects;
+ghost use Rattle.amd64_table.specs.Fits.{fits};
+ghost use Rattle.amd64_table.specs.Moves.{amd64_shape, move_of, IsNear};
 ghost use Rattle.amd64_table.specs.Effects.{effect_of};
 
 use crate::control::{
@@ -26,7 +29,11 @@ use machine_effect::{Atom, Effect};
 /// register clears its upper half. An address in the effect is `pc`, the instruction's length and a distance, modulo
 /// 2^64.
 pub fn effect(instr: &Instr, pc: u64) -> Effect
-    ensures { result ≡ effect_of instr.now pc }
+    ensures effect { result ≡ effect_of instr.now pc }
+
+    // What that says of the stack pointer.
+    ensures sp { IsTrue (fits instr.now) → (flow_of result amd64_shape).sp ≡ move_of instr.now }
+    ensures near { IsTrue (fits instr.now) → IsNear (flow_of result amd64_shape).sp }
 {
     effect_at(*instr, end_of(instr, pc))
 }
