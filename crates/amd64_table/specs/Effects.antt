@@ -7,7 +7,7 @@ use Rattle.amd64_table.specs.declared.reg.Reg.TheVariants.{Cx}
 use Rattle.amd64_table.specs.declared.instr.Instr.{Instr}
 use Rattle.amd64_table.specs.declared.instr.Instr.TheVariants as instr
 use Rattle.amd64_table.specs.Lengths.{len_of}
-use Rattle.amd64_table.specs.Operands.{reg_atom, signed_atom, bytes_of, bits_of}
+use Rattle.amd64_table.specs.Operands.{reg_atom, signed_atom}
 use Rattle.amd64_table.specs.Shapes.{copy_of, loading, storing, reg_rm_effect, arithmetic_effect, mem_reg_effect, compare_const_effect, store_low_effect, extend_effect, store_const_effect, place_of, unary_effect, mul_div_effect, rm_reg_effect, shift_effect, stack_effect, exchange_effect, atomic_effect, set_cc_effect, move_cc_effect, swap_bytes_effect, short_effect, near_effect, indirect_effect, load_wide_effect, store_wide_effect, xor_wide_effect, load_tls_effect, plain_effect}
 
 -- the address just behind an instruction at `pc`

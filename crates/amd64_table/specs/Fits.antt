@@ -1,6 +1,6 @@
 -- Which instructions are listed: what the type of an instruction leaves open. The ranges of the fields stand here too, since a
 -- definition speaks of every number.
-use Rattle.std.specs.Prelude.{ℕ, ℤ, pos, negsuc, Bool, true, false, ◌^◌, ◌&&◌, ◌||◌, ◌==◌, not, nat_lt, nat_le}
+use Rattle.std.specs.Prelude.{ℤ, pos, negsuc, Bool, true, false, ◌^◌, ◌&&◌, ◌||◌, not, nat_lt, nat_le}
 use Rattle.machine_effect.specs.Numbers.{fits as fits_bits}
 use Rattle.amd64_table.specs.declared.reg.Reg.{Reg}
 use Rattle.amd64_table.specs.declared.reg.Reg.TheVariants.{Sp}

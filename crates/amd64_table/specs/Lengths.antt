@@ -1,6 +1,6 @@
 -- How many bytes an instruction's listed spelling has: prefixes, REX, opcode, ModRM, SIB, displacement, constant (Intel 64
 -- manual, volume 2, "Instruction Format").
-use Rattle.std.specs.Prelude.{ℕ, ℤ, pos, Bool, ◌+◌, ◌%◌, ◌==◌, ◌&&◌, ◌||◌, not, nat_le, true, false, Option, Some, None, if◌then◌else◌}
+use Rattle.std.specs.Prelude.{ℕ, ℤ, pos, Bool, ◌+◌, ◌%◌, ◌==◌, ◌&&◌, ◌||◌, not, nat_le, true, false, if◌then◌else◌}
 use Rattle.machine_effect.specs.Numbers.{fits as fits_bits}
 use Rattle.amd64_table.specs.declared.reg.Reg.{Reg}
 use Rattle.amd64_table.specs.declared.xmm.Xmm.{Xmm}

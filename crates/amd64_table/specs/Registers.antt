@@ -1,5 +1,5 @@
 -- Registers by number and by name.
-use Rattle.std.specs.Prelude.{ℕ, List, ◌%◌, nat_le, Bool, codes}
+use Rattle.std.specs.Prelude.{ℕ, List, codes}
 use Rattle.amd64_table.specs.declared.reg.Reg.{Reg}
 use Rattle.amd64_table.specs.declared.reg.Reg.TheVariants.{Ax, Cx, Dx, Bx, Sp, Bp, Si, Di, R8, R9, R10, R11, R12, R13, R14, R15}
 use Rattle.amd64_table.specs.declared.xmm.Xmm.{Xmm}

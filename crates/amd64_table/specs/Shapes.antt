@@ -1,6 +1,6 @@
 -- What an instruction does, a shape at a time, in the words of the Intel 64 manual, volume 2. `end` is the address just behind the
 -- instruction.
-use Rattle.std.specs.Prelude.{ℕ, ℤ, pos, negsuc, Bool, List, [], ◌∷◌, ◌-◌, Option, Some, None}
+use Rattle.std.specs.Prelude.{ℕ, ℤ, pos, negsuc, List, [], ◌∷◌, ◌-◌, Option, Some, None}
 use Rattle.machine_effect.specs.declared.effect.Atom.{Atom}
 use Rattle.machine_effect.specs.declared.effect.Atom.TheVariants as atom
 use Rattle.machine_effect.specs.declared.effect.Access.{Access}
@@ -22,13 +22,12 @@ use Rattle.machine_effect.specs.declared.flag_rule.FlagRule.{FlagRule}
 use Rattle.machine_effect.specs.declared.flag_rule.FlagRule.TheVariants as flags
 use Rattle.machine_effect.specs.declared.next.Next.{Next}
 use Rattle.machine_effect.specs.declared.next.Next.TheVariants as next
-use Rattle.machine_effect.specs.Numbers.{moved_by, unsigned}
+use Rattle.machine_effect.specs.Numbers.{moved_by}
 use Rattle.amd64_table.specs.declared.code.Cc.{Cc}
 use Rattle.amd64_table.specs.declared.reg.Reg.{Reg}
 use Rattle.amd64_table.specs.declared.reg.Reg.TheVariants.{Ax, Cx, Dx, Bx, Sp}
 use Rattle.amd64_table.specs.declared.xmm.Xmm.{Xmm}
 use Rattle.amd64_table.specs.declared.operand.Width.{Width}
-use Rattle.amd64_table.specs.declared.operand.Width.TheVariants.{Q, L}
 use Rattle.amd64_table.specs.declared.operand.Mem.{Mem}
 use Rattle.amd64_table.specs.declared.operand.Mem.TheVariants as memory
 use Rattle.amd64_table.specs.declared.operand.Rm.{Rm}

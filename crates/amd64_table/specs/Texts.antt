@@ -1,5 +1,5 @@
 -- The text of an instruction, as Go's assembler writes it: the name, a space, and the operands with a comma and a space between.
-use Rattle.std.specs.Prelude.{ℕ, ℤ, pos, Bool, true, false, List, [], ◌∷◌, ◌++◌, codes, Option, Some, None, if◌then◌else◌}
+use Rattle.std.specs.Prelude.{ℕ, ℤ, pos, Bool, false, List, [], ◌++◌, codes, Option, Some, None, if◌then◌else◌}
 use Rattle.goasm_base.specs.Numbers.{hex_text, decimal_text}
 use Rattle.machine_effect.specs.Numbers.{moved_by}
 use Rattle.amd64_table.specs.declared.code.Cc.{Cc}

@@ -39,3 +39,5 @@ pub use xmm::Xmm;
 
 #[cfg(test)]
 mod tests;
+#[cfg(test)]
+mod text_tests;

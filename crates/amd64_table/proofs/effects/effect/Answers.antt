@@ -1,6 +1,3 @@
-use Rattle.std.proofs.Common.{◌≡◌, true}
-use Rattle.machine_effect.specs.declared.flow.SpMove.{SpMove}
-use Rattle.amd64_table.specs.Moves.{move_of, IsNear}
 use Rattle.amd64_table.proofs.MoveLemmas.{flow_moves, moves_near}
 use Rattle.amd64_table.proofs.effects.effect.Goals as goal
 
