@@ -1,6 +1,6 @@
 -- How many bytes an instruction's listed spelling has: prefixes, REX, opcode, ModRM, SIB, displacement, constant (Intel 64
 -- manual, volume 2, "Instruction Format").
-use Rattle.std.specs.Prelude.{ℕ, ℤ, pos, Bool, ◌+◌, ◌%◌, ◌==◌, ◌&&◌, ◌||◌, not, nat_le, true, false, if◌then◌else◌}
+use Rattle.std.specs.Prelude.{ℕ, ℤ, pos, Bool, ◌+◌, ◌==◌, ◌&&◌, ◌||◌, not, nat_le, true, false, if◌then◌else◌}
 use Rattle.machine_effect.specs.Numbers.{fits as fits_bits}
 use Rattle.amd64_table.specs.declared.reg.Reg.{Reg}
 use Rattle.amd64_table.specs.declared.xmm.Xmm.{Xmm}
@@ -21,26 +21,15 @@ use Rattle.amd64_table.specs.declared.op.Plain.{Plain}
 use Rattle.amd64_table.specs.declared.op.Plain.TheVariants as plain
 use Rattle.amd64_table.specs.declared.instr.Instr.{Instr}
 use Rattle.amd64_table.specs.declared.instr.Instr.TheVariants as instr
-use Rattle.amd64_table.specs.Registers.{number_of, xmm_number}
+use Rattle.amd64_table.specs.Registers.{number_of, low_bits, is_high, is_high_xmm}
 use Rattle.amd64_table.specs.Operands.{is_quad}
 
 abbrev pub one_if : Bool → ℕ
 one_if test = if test then 1 else 0
 
--- the number has a fourth bit, which stands in REX
-abbrev pub is_high : Reg → Bool
-is_high reg = nat_le 8 (number_of reg)
-
-abbrev pub is_high_xmm : Xmm → Bool
-is_high_xmm xmm = nat_le 8 (xmm_number xmm)
-
 -- as an operand of one byte a register needs REX from SP on; without it the numbers 4 to 7 name the second bytes of AX to BX
 abbrev pub is_byte_high : Reg → Bool
 is_byte_high reg = nat_le 4 (number_of reg)
-
--- the three bits of a register's number that stand in ModRM or SIB
-abbrev pub low_bits : Reg → ℕ
-low_bits reg = number_of reg % 8
 
 unfoldable pub is_high_mem : Mem → Bool
 is_high_mem (memory.Base base disp) = is_high base

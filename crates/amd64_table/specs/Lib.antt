@@ -7,3 +7,4 @@ pub mod Shapes
 pub mod Effects
 pub mod Texts
 pub mod Moves
+pub mod EffectCases

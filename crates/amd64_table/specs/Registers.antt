@@ -1,5 +1,5 @@
 -- Registers by number and by name.
-use Rattle.std.specs.Prelude.{ℕ, List, codes}
+use Rattle.std.specs.Prelude.{Bool, nat_le, ◌%◌, ℕ, List, codes}
 use Rattle.amd64_table.specs.declared.reg.Reg.{Reg}
 use Rattle.amd64_table.specs.declared.reg.Reg.TheVariants.{Ax, Cx, Dx, Bx, Sp, Bp, Si, Di, R8, R9, R10, R11, R12, R13, R14, R15}
 use Rattle.amd64_table.specs.declared.xmm.Xmm.{Xmm}
@@ -42,6 +42,20 @@ xmm_number X12 = 12
 xmm_number X13 = 13
 xmm_number X14 = 14
 xmm_number X15 = 15
+
+-- the three bits of a number that stand in ModRM, SIB or the opcode
+abbrev pub low_bits : Reg → ℕ
+low_bits reg = number_of reg % 8
+
+-- whether the number has a fourth bit, which stands in REX
+abbrev pub is_high : Reg → Bool
+is_high reg = nat_le 8 (number_of reg)
+
+abbrev pub low_bits_xmm : Xmm → ℕ
+low_bits_xmm xmm = xmm_number xmm % 8
+
+abbrev pub is_high_xmm : Xmm → Bool
+is_high_xmm xmm = nat_le 8 (xmm_number xmm)
 
 -- the names in Go's assembler
 unfoldable pub reg_text : Reg → List ℕ

@@ -48,7 +48,7 @@ pub fn len(instr: &Instr) -> u8
         } => rex_rm(width, rm) + 1 + rm_len(rm) + const_len(constant),
         Instr::StoreLow { size, from, to } => store_low_len(size, from, to),
         Instr::Extend { op, from, to } => extend_len(op, from, to) + rm_len(from),
-        Instr::LoadLong { to, .. } => one_if(is_high(to)) + 5,
+        Instr::LoadLong { to, .. } => one_if(to.is_high()) + 5,
         Instr::LoadQuad { constant, .. } => load_quad_len(constant),
         Instr::StoreConst { width, to, .. } => {
             one_if(is_quad(width) || is_high_mem(to)) + 1 + mem_len(to) + 4
@@ -71,7 +71,7 @@ pub fn len(instr: &Instr) -> u8
             to,
         } => one_if(is_popcnt(op)) + rex_reg_rm(width, to, from) + 2 + rm_len(from),
         Instr::ShiftConst { width, rm, .. } => rex_rm(width, rm) + 1 + rm_len(rm) + 1,
-        Instr::Stack { reg, .. } => one_if(is_high(reg)) + 1,
+        Instr::Stack { reg, .. } => one_if(reg.is_high()) + 1,
         Instr::Exchange { width, reg, mem } => rex_reg_mem(width, reg, mem) + 1 + mem_len(mem),
         Instr::Atomic {
             lock,
@@ -87,13 +87,13 @@ pub fn len(instr: &Instr) -> u8
             to,
             ..
         } => rex_reg_rm(width, to, from) + 2 + rm_len(from),
-        Instr::SwapBytes { width, reg } => one_if(is_quad(width) || is_high(reg)) + 2,
+        Instr::SwapBytes { width, reg } => one_if(is_quad(width) || reg.is_high()) + 2,
         Instr::Short { .. } => 2,
         Instr::Near { op, .. } => near_len(op),
         Instr::Indirect { rm, .. } => one_if(is_high_rm(rm)) + 1 + rm_len(rm),
         Instr::LoadWide { from, to } => wide_len(to, from),
         Instr::StoreWide { from, to } => wide_len(from, to),
-        Instr::XorWide { from, to } => { 1 + one_if(is_high_xmm(to) || is_high_xmm(from)) + 3 }
+        Instr::XorWide { from, to } => { 1 + one_if(to.is_high() || from.is_high()) + 3 }
         Instr::LoadTls { .. } => 9,
         Instr::Plain { op } => plain_len(op),
     }
@@ -112,18 +112,6 @@ fn is_quad(width: Width) -> bool
     matches!(width, Width::Q)
 }
 
-fn is_high(reg: Reg) -> bool
-    ensures { result ≡ spec.is_high reg }
-{
-    reg.number() >= 8
-}
-
-fn is_high_xmm(xmm: Xmm) -> bool
-    ensures { result ≡ spec.is_high_xmm xmm }
-{
-    xmm.number() >= 8
-}
-
 fn is_byte_high(reg: Reg) -> bool
     ensures { result ≡ spec.is_byte_high reg }
 {
@@ -135,8 +123,8 @@ fn is_high_mem(mem: Mem) -> bool
     ensures { result ≡ spec.is_high_mem mem }
 {
     match mem {
-        Mem::Base { base, .. } => is_high(base),
-        Mem::Indexed { base, index, .. } => is_high(base) || is_high(index),
+        Mem::Base { base, .. } => base.is_high(),
+        Mem::Indexed { base, index, .. } => base.is_high() || index.is_high(),
         Mem::Symbol { .. } => false,
     }
 }
@@ -146,7 +134,7 @@ fn is_high_rm(rm: Rm) -> bool
     ensures { result ≡ spec.is_high_rm rm }
 {
     match rm {
-        Rm::Reg(reg) => is_high(reg),
+        Rm::Reg(reg) => reg.is_high(),
         Rm::Mem(mem) => is_high_mem(mem),
     }
 }
@@ -178,7 +166,7 @@ fn disp_len(base: Reg, disp: i32) -> u8
     ensures len { result ≡ spec.disp_len base disp }
     ensures most { result ≤ 4 }
 {
-    if disp == 0 && base.number() % 8 != 5 {
+    if disp == 0 && base.low() != 5 {
         0
     } else {
         const_len(disp)
@@ -191,7 +179,7 @@ fn mem_len(mem: Mem) -> u8
     ensures most { result ≤ 6 }
 {
     match mem {
-        Mem::Base { base, disp } => 1 + one_if(base.number() % 8 == 4) + disp_len(base, disp),
+        Mem::Base { base, disp } => 1 + one_if(base.low() == 4) + disp_len(base, disp),
         Mem::Indexed { base, disp, .. } => 2 + disp_len(base, disp),
         Mem::Symbol { .. } => 5,
     }
@@ -221,7 +209,7 @@ fn rex_reg_rm(width: Width, reg: Reg, rm: Rm) -> u8
     ensures rex { result ≡ spec.rex_reg_rm width reg rm }
     ensures most { result ≤ 1 }
 {
-    one_if(is_quad(width) || is_high(reg) || is_high_rm(rm))
+    one_if(is_quad(width) || reg.is_high() || is_high_rm(rm))
 }
 
 #[tactic(auto, unfolding(crate::specs::Lengths::rex_reg_mem))]
@@ -229,7 +217,7 @@ fn rex_reg_mem(width: Width, reg: Reg, mem: Mem) -> u8
     ensures rex { result ≡ spec.rex_reg_mem width reg mem }
     ensures most { result ≤ 1 }
 {
-    one_if(is_quad(width) || is_high(reg) || is_high_mem(mem))
+    one_if(is_quad(width) || reg.is_high() || is_high_mem(mem))
 }
 
 #[tactic(auto, unfolding(crate::specs::Lengths::store_low_len))]
@@ -240,7 +228,7 @@ fn store_low_len(size: StoreSize, from: Reg, to: Mem) -> u8
 {
     match size {
         StoreSize::Byte => one_if(is_byte_high(from) || is_high_mem(to)) + 1 + mem_len(to),
-        StoreSize::Word => 1 + one_if(is_high(from) || is_high_mem(to)) + 1 + mem_len(to),
+        StoreSize::Word => 1 + one_if(from.is_high() || is_high_mem(to)) + 1 + mem_len(to),
     }
 }
 
@@ -251,8 +239,8 @@ fn extend_len(op: Extend, from: Rm, to: Reg) -> u8
     ensures most { result ≤ 3 }
 {
     match op {
-        Extend::ByteZero => one_if(is_byte_high_rm(from) || is_high(to)) + 2,
-        Extend::WordZero => one_if(is_high_rm(from) || is_high(to)) + 2,
+        Extend::ByteZero => one_if(is_byte_high_rm(from) || to.is_high()) + 2,
+        Extend::WordZero => one_if(is_high_rm(from) || to.is_high()) + 2,
         Extend::ByteSign | Extend::WordSign => 3,
         Extend::LongSign => 2,
     }
@@ -296,7 +284,7 @@ fn wide_len(xmm: Xmm, mem: Mem) -> u8
     ensures least { 1 ≤ result }
     ensures most { result ≤ 10 }
 {
-    1 + one_if(is_high_xmm(xmm) || is_high_mem(mem)) + 2 + mem_len(mem)
+    1 + one_if(xmm.is_high() || is_high_mem(mem)) + 2 + mem_len(mem)
 }
 
 #[tactic(auto, unfolding(crate::specs::Lengths::plain_len))]

@@ -11,6 +11,7 @@ mod control;
 mod data;
 mod effects;
 mod instr;
+mod laws;
 mod length;
 mod listed;
 mod op;

@@ -1,5 +1,5 @@
 ghost use Rattle.std.specs.Prelude.{◌≡◌, ◌<◌};
-ghost use Rattle.amd64_table.specs.Registers.{number_of, reg_text};
+ghost use Rattle.amd64_table.specs.Registers.{number_of, low_bits, is_high, reg_text};
 ghost use Rattle.amd64_table.specs.declared.reg.Reg.{Reg};
 
 /// A general register. As an operand of one byte it has the same name.
@@ -76,6 +76,36 @@ impl Reg {
             13 => Reg::R13,
             14 => Reg::R14,
             _ => Reg::R15,
+        }
+    }
+
+    /// The low three bits of the number, which stand in ModRM, SIB or the opcode.
+    pub fn low(self) -> u8
+        ensures low { result ≡ low_bits self }
+        ensures below { result < 8 }
+    {
+        self.number() % 8
+    }
+
+    /// The fourth bit of the number, which stands in REX.
+    pub fn is_high(self) -> bool
+        ensures { result ≡ is_high self }
+    {
+        self.number() >= 8
+    }
+
+    /// The register with this fourth bit and these low bits.
+    #[tactic(auto, using(crate::proofs::RegisterLemmas::reg_high, crate::proofs::RegisterLemmas::reg_low))]
+    pub fn joined(high: bool, low: u8) -> Reg
+        requires { low < 8 }
+        ensures high { is_high result ≡ high }
+        ensures low { low_bits result ≡ low }
+        ensures sole { (reg : Reg) → is_high reg ≡ high → low_bits reg ≡ low → result ≡ reg }
+    {
+        if high {
+            Reg::numbered(low + 8)
+        } else {
+            Reg::numbered(low)
         }
     }
 

@@ -63,8 +63,12 @@ fn knows_what_is_not_listed(rt: HostRuntime) {
 #[test]
 fn numbers_come_back(rt: HostRuntime) {
     for number in 0..16u8 {
-        assert_eq!(rt; Reg::numbered(number).number(), number);
-        assert_eq!(rt; Xmm::numbered(number).number(), number);
+        let reg = Reg::numbered(number);
+        assert_eq!(rt; reg.number(), number);
+        assert_eq!(rt; Reg::joined(reg.is_high(), reg.low()), reg);
+        let xmm = Xmm::numbered(number);
+        assert_eq!(rt; xmm.number(), number);
+        assert_eq!(rt; Xmm::joined(xmm.is_high(), xmm.low()), xmm);
         assert_eq!(rt; Cc::numbered(number).number(), number);
     }
 }

@@ -1,5 +1,5 @@
 ghost use Rattle.std.specs.Prelude.{◌≡◌, ◌<◌};
-ghost use Rattle.amd64_table.specs.Registers.{xmm_number, xmm_text};
+ghost use Rattle.amd64_table.specs.Registers.{xmm_number, low_bits_xmm, is_high_xmm, xmm_text};
 ghost use Rattle.amd64_table.specs.declared.xmm.Xmm.{Xmm};
 
 /// A register of 16 bytes, XMM0 to XMM15 of the manual.
@@ -75,6 +75,36 @@ impl Xmm {
             13 => Xmm::X13,
             14 => Xmm::X14,
             _ => Xmm::X15,
+        }
+    }
+
+    /// The low three bits of the number, which stand in ModRM, SIB or the opcode.
+    pub fn low(self) -> u8
+        ensures low { result ≡ low_bits_xmm self }
+        ensures below { result < 8 }
+    {
+        self.number() % 8
+    }
+
+    /// The fourth bit of the number, which stands in REX.
+    pub fn is_high(self) -> bool
+        ensures { result ≡ is_high_xmm self }
+    {
+        self.number() >= 8
+    }
+
+    /// The register with this fourth bit and these low bits.
+    #[tactic(auto, using(crate::proofs::RegisterLemmas::xmm_high, crate::proofs::RegisterLemmas::xmm_low))]
+    pub fn joined(high: bool, low: u8) -> Xmm
+        requires { low < 8 }
+        ensures high { is_high_xmm result ≡ high }
+        ensures low { low_bits_xmm result ≡ low }
+        ensures sole { (xmm : Xmm) → is_high_xmm xmm ≡ high → low_bits_xmm xmm ≡ low → result ≡ xmm }
+    {
+        if high {
+            Xmm::numbered(low + 8)
+        } else {
+            Xmm::numbered(low)
         }
     }
 
