@@ -1,0 +1,96 @@
+-- What each instruction does to the stack pointer, as its effect's form tells.
+use Rattle.std.specs.Prelude.{◌≡◌, ℤ, pos, negsuc, ◌-◌, ◌^◌, ◌-ℤ◌, ◌≤ℤ◌, None}
+use Rattle.machine_effect.specs.declared.flow.Shape.{Shape}
+use Rattle.machine_effect.specs.declared.flow.SpMove.{SpMove}
+use Rattle.machine_effect.specs.declared.flow.SpMove.TheVariants.{Keep, By, Other}
+use Rattle.amd64_table.specs.declared.reg.Reg.{Reg}
+use Rattle.amd64_table.specs.declared.reg.Reg.TheVariants.{Sp}
+use Rattle.amd64_table.specs.declared.operand.Width.{Width}
+use Rattle.amd64_table.specs.declared.operand.Width.TheVariants.{Q}
+use Rattle.amd64_table.specs.declared.operand.Rm.{Rm}
+use Rattle.amd64_table.specs.declared.operand.Rm.TheVariants as operand
+use Rattle.amd64_table.specs.declared.op.Arithmetic.{Arithmetic}
+use Rattle.amd64_table.specs.declared.op.Arithmetic.TheVariants as arithmetic
+use Rattle.amd64_table.specs.declared.op.RegRm.{RegRm}
+use Rattle.amd64_table.specs.declared.op.RegRm.TheVariants as reg_rm
+use Rattle.amd64_table.specs.declared.op.MemReg.{MemReg}
+use Rattle.amd64_table.specs.declared.op.MemReg.TheVariants as mem_reg
+use Rattle.amd64_table.specs.declared.op.Stack.{Stack}
+use Rattle.amd64_table.specs.declared.op.Stack.TheVariants as stack
+use Rattle.amd64_table.specs.declared.op.Atomic.{Atomic}
+use Rattle.amd64_table.specs.declared.op.Atomic.TheVariants as atomic
+use Rattle.amd64_table.specs.declared.instr.Instr.{Instr}
+use Rattle.amd64_table.specs.declared.instr.Instr.TheVariants as instr
+
+-- the stack pointer is register 4, and there's no link register
+abbrev pub amd64_shape : Shape
+amd64_shape = record { sp = 4; link = None }
+
+-- a register is written in a way that moves no stack
+abbrev pub written : Reg → SpMove
+written Sp = Other
+written _ = Keep
+
+abbrev pub written_rm : Rm → SpMove
+written_rm (operand.Reg reg) = written reg
+written_rm (operand.Mem mem) = Keep
+
+-- a sum or a difference of 64 bits moves the stack pointer by the constant
+abbrev pub moved : Arithmetic → Width → ℤ → SpMove
+moved arithmetic.Add Q constant = By constant
+moved arithmetic.Sub Q constant = By (pos 0 -ℤ constant)
+moved _ _ constant = Other
+
+abbrev pub moved_reg : Arithmetic → Width → ℤ → Reg → SpMove
+moved_reg op width constant Sp = moved op width constant
+moved_reg op width constant _ = Keep
+
+abbrev pub moved_rm : Arithmetic → Width → ℤ → Rm → SpMove
+moved_rm op width constant (operand.Reg reg) = moved_reg op width constant reg
+moved_rm op width constant (operand.Mem mem) = Keep
+
+abbrev pub reg_rm_move : RegRm → Rm → SpMove
+reg_rm_move reg_rm.Mov rm = written_rm rm
+reg_rm_move _ rm = Keep
+
+abbrev pub mem_reg_move : MemReg → Reg → SpMove
+mem_reg_move mem_reg.Cmp reg = Keep
+mem_reg_move _ reg = written reg
+
+-- POPQ SP leaves in it what was loaded
+abbrev pub stack_move : Stack → Reg → SpMove
+stack_move stack.Push reg = By (negsuc 7)
+stack_move stack.Pop Sp = Other
+stack_move stack.Pop _ = By (pos 8)
+
+abbrev pub atomic_move : Atomic → Reg → SpMove
+atomic_move atomic.CompareExchange reg = Keep
+atomic_move atomic.ExchangeAdd reg = written reg
+
+-- ADDQ and SUBQ of a constant, PUSHQ, and POPQ of another register move the stack pointer by a constant. All else that writes it
+-- does so otherwise
+unfoldable pub move_of : Instr → SpMove
+move_of (instr.RegRm op width reg rm) = reg_rm_move op rm
+move_of (instr.ArithmeticReg op lock width from to) = written_rm to
+move_of (instr.MemReg op width mem reg) = mem_reg_move op reg
+move_of (instr.ArithmeticConst op lock width constant to) = moved_rm op width constant to
+move_of (instr.Extend op from to) = written to
+move_of (instr.LoadLong constant to) = written to
+move_of (instr.LoadQuad constant to) = written to
+move_of (instr.Lea from to) = written to
+move_of (instr.Unary op lock width rm) = written_rm rm
+move_of (instr.RmReg op width from to) = written to
+move_of (instr.ShiftConst op width count rm) = written_rm rm
+move_of (instr.ShiftCx op width rm) = written_rm rm
+move_of (instr.Stack op reg) = stack_move op reg
+move_of (instr.Exchange width reg mem) = written reg
+move_of (instr.Atomic op lock width reg mem) = atomic_move op reg
+move_of (instr.SetCc code to) = written_rm to
+move_of (instr.MoveCc code width from to) = written to
+move_of (instr.SwapBytes width reg) = written reg
+move_of (instr.LoadTls to) = written to
+move_of _ = Keep
+
+-- a move of the stack pointer lies between -2^31 and 2^31
+abbrev pub IsNear : SpMove → Type 0
+IsNear move = (k : ℤ) → move ≡ By k → (negsuc (2 ^ 31 - 1) ≤ℤ k) × (k ≤ℤ pos (2 ^ 31))
