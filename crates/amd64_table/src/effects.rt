@@ -38,7 +38,7 @@ pub fn effect(instr: &Instr, pc: u64) -> Effect
     effect_at(*instr, end_of(instr, pc))
 }
 
-/// The address just behind an instruction at `pc`.
+/// The address just behind an instruction at `pc`, modulo 2^64.
 pub fn end_of(instr: &Instr, pc: u64) -> u64
     ensures { result ≡ effects.end_of instr.now pc }
 {

@@ -25,7 +25,7 @@ mod values;
 mod xmm;
 
 pub use code::Cc;
-pub use effects::effect;
+pub use effects::{effect, end_of};
 pub use instr::Instr;
 pub use length::len;
 pub use listed::fits;

@@ -3,16 +3,20 @@ use crate::code::Cc;
 /// What two operands give, in the order of the manual's digits 0 to 6.
 #[derive(Clone, Copy, Debug, Default, PartialEq, Eq)]
 pub enum Arithmetic {
+    /// The sum.
     #[default]
     Add,
+    /// Bit by bit.
     Or,
     /// The sum and the carry flag.
     Adc,
     /// The destination less the source and the carry flag.
     Sbb,
+    /// Bit by bit.
     And,
     /// The destination less the source.
     Sub,
+    /// Bit by bit.
     Xor,
 }
 
@@ -24,7 +28,7 @@ pub enum RegRm {
     Mov,
     /// Sets the flags by the register or memory less the register.
     Cmp,
-    /// Sets the flags by the two bit by bit.
+    /// Sets the flags by AND of the two.
     Test,
 }
 
@@ -36,6 +40,7 @@ pub enum MemReg {
     Mov,
     /// Sets the flags by the register less the memory.
     Cmp,
+    /// The register becomes what the two give.
     Arithmetic(Arithmetic),
 }
 
@@ -122,8 +127,10 @@ pub enum ShiftOp {
 /// Operations on the stack.
 #[derive(Clone, Copy, Debug, Default, PartialEq, Eq)]
 pub enum Stack {
+    /// Stores the register's old number below the stack pointer, which moves there.
     #[default]
     Push,
+    /// Loads the register from the stack pointer, which moves up before.
     Pop,
 }
 
@@ -140,8 +147,10 @@ pub enum Atomic {
 /// Jumps and calls whose distance has four bytes.
 #[derive(Clone, Copy, Debug, Default, PartialEq, Eq)]
 pub enum Near {
+    /// A jump.
     #[default]
     Jmp,
+    /// A call, which pushes the address behind it.
     Call,
     /// A jump where the condition holds.
     If(Cc),
@@ -150,8 +159,10 @@ pub enum Near {
 /// Jumps and calls to an address that a register or memory has.
 #[derive(Clone, Copy, Debug, Default, PartialEq, Eq)]
 pub enum Indirect {
+    /// A jump.
     #[default]
     Jmp,
+    /// A call, which pushes the address behind it.
     Call,
 }
 

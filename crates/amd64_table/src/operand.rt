@@ -87,6 +87,8 @@ pub enum Mem {
 /// A register or a place in memory: what ModRM's fields mod and rm name.
 #[derive(Clone, Copy, Debug, PartialEq, Eq)]
 pub enum Rm {
+    /// A register.
     Reg(Reg),
+    /// A place in memory.
     Mem(Mem),
 }

@@ -58,6 +58,7 @@ fn knows_what_is_not_listed(rt: HostRuntime) {
         );
     }
     assert!(rt; fits(&Instr::default()));
+    assert_eq!(rt; end_of(&Instr::default(), u64::MAX), 1);
 }
 
 #[test]
