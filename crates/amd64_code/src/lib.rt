@@ -1,0 +1,32 @@
+//! The bytes of amd64's instructions: one spelling of each, and a reader that takes exactly these.
+//!
+//! A spelling has LOCK, a prefix, REX, the opcode, ModRM, SIB, a displacement and a constant, each only where it
+//! is needed. The public source is the Intel 64 and IA-32 Architectures Software Developer's Manual, volume 2,
+//! "Instruction Format" and the opcode maps.
+#![tactic(auto)]
+
+mod computation;
+mod constants;
+mod control;
+mod decode;
+mod fields;
+mod head;
+mod moves;
+mod one_byte;
+mod opcodes;
+mod parts;
+mod place;
+mod prefixes;
+mod reader;
+mod registers;
+mod rex;
+mod spelling;
+mod two_bytes;
+
+pub use reader::read;
+pub use spelling::spell;
+
+#[cfg(test)]
+mod shape_tests;
+#[cfg(test)]
+mod tests;
