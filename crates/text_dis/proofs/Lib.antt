@@ -1,0 +1,3 @@
+mod Examples
+pub mod RawLemmas
+pub mod ReadingLemmas

@@ -1,0 +1,11 @@
+//! The text of machine code, for any target.
+#![tactic(auto)]
+
+mod code;
+mod laws;
+mod line;
+#[cfg(test)]
+mod tests;
+
+pub use code::raw;
+pub use laws::{one_raw_text, raw_text_by_reading};
