@@ -1,0 +1,127 @@
+-- Loops over the files of a build.
+use Rattle.std.proofs.Common.{◌≡◌, ℕ, suc, ◌+◌, ◌<◌, Bool, true, false, ◌||◌, cond, max, List, [], ◌∷◌, ◌++◌, drop, length, get_or, Option, Some, None, is_some, Result, Ok, Err, if◌then◌else◌, refl, sym, ap, ◌∙◌, add-one, drop-cons, bytes_eq}
+use Rattle.std.specs.Borrow.{Bor}
+use Rattle.std.specs.Option.{option_map}
+use Rattle.std.specs.BTreeSet.{BTreeSet, contains, Updates}
+use Rattle.std.proofs.lemmas.Map.Text.{is_eq-slice_cmp}
+use Rattle.std.proofs.lemmas.Bool.{or_right}
+use Rattle.std.proofs.lemmas.List.Folds.{list_any-append}
+use Rattle.std.proofs.Math.Bool.{or-false}
+use Rattle.asm_lex.specs.declared.token.Token.{Token}
+use Rattle.asm_lex.specs.declared.token.Tokens.{Tokens}
+use Rattle.asm_macro.specs.declared.macros.Macro.{Macro}
+use Rattle.asm_macro.specs.declared.names.NameMap.{NameMap}
+use Rattle.asm_macro.specs.declared.refusal.MacroNo.{MacroNo}
+use Rattle.asm_macro.specs.Names.{Names, with_name}
+use Rattle.asm_macro.specs.Definitions.{Definitions}
+use Rattle.asm_macro.specs.LineNames.{is_among}
+use Rattle.asm_macro.specs.Seen.{by_bytes, Keeps}
+use Rattle.asm_macro.specs.Files.{Context, State, file}
+use Rattle.asm_macro.specs.Builds.{greatest, included, defined, value_definition, started, sources_from}
+use Rattle.asm_macro.specs.Views.{names_of, definition_of, macros_in, files_in, entered_of}
+use Rattle.asm_macro.proofs.NameLemmas.{map_name}
+
+pub greatest_append : (most : ℕ) (one other : List ℕ) → greatest most (one ++ other) ≡ greatest (greatest most one) other
+greatest_append most [] other = refl
+greatest_append most (file ∷ one) other = greatest_append (max most file) one other
+
+pub greatest_all : (most sources includes defines : ℕ) (a b c : List ℕ)
+    → sources ≡ greatest most a → includes ≡ greatest sources b → defines ≡ greatest includes c
+    → defines ≡ greatest most (a ++ (b ++ c))
+greatest_all most sources includes defines a b c one two three =
+    three ∙ ap (λ n. greatest n c) two ∙ ap (λ n. greatest (greatest n b) c) one
+    ∙ sym (greatest_append (greatest most a) b c) ∙ sym (greatest_append most a (b ++ c))
+
+some_map : {S T : Type 0} (f : S → T) (value : Option S) → is_some (option_map f value) ≡ is_some value
+some_map f (Some value) = refl
+some_map f None = refl
+
+-- a name that no earlier line defines
+pub given_next : (before after : NameMap Macro) (defines : List (List ℕ × Tokens)) (index : ℕ) (item : List ℕ × Tokens) (macro : Macro) (whole : Result Definitions MacroNo)
+    → index < length defines → item ≡ get_or defines index item
+    → is_some (names_of before item.0) ≡ false → definition_of macro ≡ value_definition item.1
+    → names_of after ≡ with_name (names_of before) item.0 (Some macro)
+    → defined (macros_in before) (drop index defines) ≡ whole → defined (macros_in after) (drop (index + 1) defines) ≡ whole
+unfolding defined
+given_next before after defines index item macro whole inside is none made puts known =
+    let first : drop index defines ≡ item ∷ drop (index + 1) defines
+    = drop-cons defines index item inside ∙ ap (λ here. here ∷ drop (suc index) defines) (sym is) ∙ ap (λ next. item ∷ drop next defines) (sym (add-one index)) in
+    let free : is_some (macros_in before item.0) ≡ false = some_map definition_of (names_of before item.0) ∙ none in
+    let same : macros_in after ≡ with_name (macros_in before) item.0 (Some (value_definition item.1))
+    = ap (λ (names : Names Macro). (λ (name : List ℕ). option_map definition_of (names name))) puts
+    ∙ map_name definition_of (names_of before) item.0 (Some macro)
+    ∙ ap (λ definition. with_name (macros_in before) item.0 (Some definition)) made in
+    let step : defined (with_name (macros_in before) item.0 (Some (value_definition item.1))) (drop (index + 1) defines) ≡ whole
+    = rw free at (rw first at known) in
+    ap (λ definitions. defined definitions (drop (index + 1) defines)) same ∙ step
+
+-- a file that is included, where no earlier one has its name
+chosen_file : (there : Bool) (before after : Names (Bor (List Token))) (name : List ℕ) (tokens : Bor (List Token))
+    → after ≡ (if there then before else with_name before name (Some tokens))
+    → (λ (other : List ℕ). entered_of (after other))
+    ≡ (if there then (λ (other : List ℕ). entered_of (before other)) else with_name (λ (other : List ℕ). entered_of (before other)) name (Some tokens.now))
+chosen_file true before after name tokens puts =
+    ap (λ (names : Names (Bor (List Token))). (λ (other : List ℕ). entered_of (names other))) puts
+chosen_file false before after name tokens puts =
+    ap (λ (names : Names (Bor (List Token))). (λ (other : List ℕ). entered_of (names other))) puts
+    ∙ map_name (λ tokens. tokens.now) before name (Some tokens)
+
+next_file : (files : Names (List Token)) (item : List ℕ × Tokens) → Names (List Token)
+next_file files item = if is_some (files item.0) then files else with_name files item.0 (Some item.1.list)
+
+pub included_next : (before after : NameMap (Bor (List Token))) (includes : List (List ℕ × Tokens)) (index : ℕ) (item : List ℕ × Tokens) (tokens : Bor (List Token)) (whole : Names (List Token))
+    → index < length includes → item ≡ get_or includes index item → tokens.now ≡ item.1.list
+    → names_of after ≡ (if is_some (names_of before item.0) then names_of before else with_name (names_of before) item.0 (Some tokens))
+    → included (files_in before) (drop index includes) ≡ whole → included (files_in after) (drop (index + 1) includes) ≡ whole
+unfolding included next_file
+included_next before after includes index item tokens whole inside is list puts known =
+    let first : drop index includes ≡ item ∷ drop (index + 1) includes
+    = drop-cons includes index item inside ∙ ap (λ here. here ∷ drop (suc index) includes) (sym is) ∙ ap (λ next. item ∷ drop next includes) (sym (add-one index)) in
+    let step : included (next_file (files_in before) item) (drop (index + 1) includes) ≡ whole
+    = sym (ap (λ files. included (files_in before) files) first) ∙ known in
+    let same : files_in after ≡ next_file (files_in before) item
+    = chosen_file (is_some (names_of before item.0)) (names_of before) (names_of after) item.0 tokens puts
+    ∙ ap (λ (there : Bool). if there then files_in before else with_name (files_in before) item.0 (Some tokens.now)) (sym (some_map (λ tokens. tokens.now) (names_of before item.0)))
+    ∙ ap (λ (named : List Token). if is_some (files_in before item.0) then files_in before else with_name (files_in before) item.0 (Some named)) list in
+    ap (λ files. included files (drop (index + 1) includes)) same ∙ step
+
+told : (here before : Bool) → cond here true before ≡ (before || here)
+told true before = sym (or_right before true refl)
+told false before = sym (or-false before)
+
+-- a name that wasn't there
+pub keeps_more : (names : List (List ℕ)) (name : Bor (List ℕ)) (before after : BTreeSet (Bor (List ℕ)))
+    → Updates by_bytes before after name true → Keeps names before → Keeps (names ++ name.now ∷ []) after
+keeps_more names name before after updates keeps =
+    λ other. updates.0 other
+    ∙ ap (λ same. cond same true (contains by_bytes before other)) (is_eq-slice_cmp name.now other.now)
+    ∙ ap (λ there. cond (bytes_eq name.now other.now) true there) (keeps other)
+    ∙ told (bytes_eq name.now other.now) (is_among other.now names)
+    ∙ ap (λ here. is_among other.now names || here) (sym (or-false (bytes_eq name.now other.now)))
+    ∙ sym (list_any-append (λ one. bytes_eq one other.now) names (name.now ∷ []))
+
+first_left : {T : Type 0} (items : List T) (index : ℕ) (item : T) → index < length items → item ≡ get_or items index item
+    → drop index items ≡ item ∷ drop (index + 1) items
+first_left items index item inside is =
+    drop-cons items index item inside ∙ ap (λ here. here ∷ drop (suc index) items) (sym is) ∙ ap (λ next. item ∷ drop next items) (sym (add-one index))
+
+-- a source that is expanded, and one that is refused
+pub sources_next : (nesting : ℕ) (context : Context) (definitions : Definitions) (room uses : ℕ) (done after sources : List Tokens) (index : ℕ) (item : Tokens) (state : State)
+    → index < length sources → item ≡ get_or sources index item
+    → file nesting context item.list (started definitions room uses) ≡ Ok state
+    → after ≡ done ++ record { file = item.file; list = state.work.out } ∷ []
+    → sources_from nesting context definitions room uses done (drop index sources)
+    ≡ sources_from nesting context definitions state.work.room state.work.uses after (drop (index + 1) sources)
+unfolding sources_from
+sources_next nesting context definitions room uses done after sources index item state inside is reads adds =
+    ap (λ rest. sources_from nesting context definitions room uses done rest) (first_left sources index item inside is)
+    ∙ rw (reads, sources_from, adds) refl
+
+pub sources_refused : (nesting : ℕ) (context : Context) (definitions : Definitions) (room uses : ℕ) (done sources : List Tokens) (index : ℕ) (item : Tokens) (fault : MacroNo)
+    → index < length sources → item ≡ get_or sources index item
+    → file nesting context item.list (started definitions room uses) ≡ Err fault
+    → sources_from nesting context definitions room uses done (drop index sources) ≡ Err fault
+unfolding sources_from
+sources_refused nesting context definitions room uses done sources index item fault inside is reads =
+    ap (λ rest. sources_from nesting context definitions room uses done rest) (first_left sources index item inside is)
+    ∙ rw (reads, sources_from) refl

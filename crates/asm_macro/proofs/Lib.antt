@@ -1,0 +1,10 @@
+pub mod NameLemmas
+pub mod BracketLemmas
+pub mod StatementLemmas
+pub mod BuildLemmas
+pub mod UseLemmas
+pub mod FileLemmas
+pub mod OutcomeLemmas
+pub mod FormLemmas
+pub mod FormFiles
+pub mod TextLemmas

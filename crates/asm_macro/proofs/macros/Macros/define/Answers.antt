@@ -1,0 +1,12 @@
+use Rattle.std.proofs.Common.{ℕ, List, Option, Some, ap, ◌∙◌}
+use Rattle.asm_macro.specs.declared.macros.Macro.{Macro}
+use Rattle.asm_macro.specs.Names.{Names}
+use Rattle.asm_macro.specs.Views.{definitions_of, macros_in, names_of, own_first}
+use Rattle.asm_macro.proofs.NameLemmas.{own_put}
+use Rattle.asm_macro.proofs.macros.Macros.define.Goals as goal
+
+pub returns : goal.returns
+unfolding definitions_of
+returns c =
+    ap (λ (own : Names (Option Macro)). (λ (name : List ℕ). own_first (own name) (macros_in c.args.self.now.given.now name))) c.in_ok-put.ensures
+    ∙ own_put (names_of c.args.self.now.own) (macros_in c.args.self.now.given.now) c.args.name.now (Some c.args.definition)

@@ -1,0 +1,247 @@
+ghost use Rattle.std.specs.Prelude.{◌≡◌, ◌<◌, ◌+◌, ◌^◌, [], length, map, All, IfOk, IfErr, Ok};
+ghost use Rattle.asm_lex.specs.Form.{AreTokens};
+ghost use Rattle.asm_macro.specs.Refusals.{IsFault, Refuses};
+ghost use Rattle.asm_macro.specs.Names.{nothing};
+ghost use Rattle.asm_macro.specs.Builds as spec;
+ghost use Rattle.asm_macro.specs.Builds.{line_names_of, greatest_file, outcome_of, Done, Refused};
+ghost use Rattle.asm_macro.specs.Views.{names_of, definition_of, macros_in, files_in, context_of, AreBuiltIn};
+
+use crate::built_in::Rows;
+use crate::files::{Environment, Progress, read_file};
+use crate::limits::Limits;
+use crate::macros::{Macro, Macros};
+use crate::marks::line_names;
+use crate::names::NameMap;
+use crate::refusal::MacroNo;
+use crate::work::Produced;
+use asm_lex::{Token, Tokens};
+use goasm_base::{List, Memory, Name, Pos};
+use std::alloc::Global;
+
+pub const LIMITS: Limits = Limits {
+    tokens: 4_000_000,
+    uses: 4_000_000,
+    nesting: 100,
+};
+
+/// The tokens of each source with its macros, conditions and inclusions carried out.
+///
+/// The sources are expanded one after the other. Each begins with the macros of `defines` alone, a name and the
+/// tokens of its value; `includes` are the files that `#include` finds by their names. They are refused exactly where
+/// something in them is, with the first refusal by statements in the order in which they are read, and at one
+/// statement the one with the lowest number. Only want of memory may come in place of any answer.
+pub fn expand(
+    alloc: Global,
+    sources: &[Tokens],
+    includes: &[(Name, Tokens)],
+    defines: &[(Name, Tokens)],
+) -> Result<Vec<Tokens>, MacroNo>
+    requires sources { All AreTokens sources.now }
+    requires includes { All (λ include. AreTokens include.1) includes.now }
+    requires defines { All (λ define. AreTokens define.1) defines.now }
+    requires files { greatest_file sources.now includes.now defines.now + length (line_names_of sources.now includes.now) < 2 ^ 32 }
+    ensures expanded { IfOk result (λ all. outcome_of sources.now includes.now defines.now ≡ Done all.items) }
+    ensures refused { IfErr result
+        (λ no. IsFault no → outcome_of sources.now includes.now defines.now ≡ Refused no) }
+    ensures form { IfOk result (λ all. All AreTokens all.items) }
+{
+    expand_within(alloc, LIMITS, sources, includes, defines)
+}
+
+/// The same under other limits.
+pub fn expand_within(
+    alloc: Global,
+    limits: Limits,
+    sources: &[Tokens],
+    includes: &[(Name, Tokens)],
+    defines: &[(Name, Tokens)],
+) -> Result<Vec<Tokens>, MacroNo>
+    requires files { greatest_file sources.now includes.now defines.now + length (line_names_of sources.now includes.now) < 2 ^ 32 }
+    ensures ok { IfOk result (λ all. spec.expansion limits sources.now includes.now defines.now ≡ Ok all.items) }
+    ensures err { IfErr result (λ no. Refuses (spec.expansion limits sources.now includes.now defines.now) no) }
+{
+    let names = line_names(alloc, sources, includes)?;
+    let rows = Rows::new(alloc)?;
+    expand_named(
+        alloc,
+        limits,
+        sources,
+        includes,
+        defines,
+        names.as_slice(),
+        &rows,
+    )
+}
+
+// The same with the names in `#line` directives and the built-in files.
+#[tactic(auto, unfolding(crate::specs::Builds::expansion))]
+fn expand_named<'a>(
+    alloc: Global,
+    limits: Limits,
+    sources: &'a [Tokens],
+    includes: &'a [(Name, Tokens)],
+    defines: &'a [(Name, Tokens)],
+    names: &'a [Name],
+    rows: &'a Rows,
+) -> Result<Vec<Tokens>, MacroNo>
+    requires files { greatest_file sources.now includes.now defines.now + length names.now < 2 ^ 32 }
+    requires names { names.now ≡ line_names_of sources.now includes.now }
+    requires rows { AreBuiltIn rows.now }
+    ensures ok { IfOk result (λ all. spec.expansion limits sources.now includes.now defines.now ≡ Ok all.items) }
+    ensures err { IfErr result (λ no. Refuses (spec.expansion limits sources.now includes.now defines.now) no) }
+{
+    let given = given_macros(alloc, defines)?;
+    let environment = Environment {
+        includes: included_files(alloc, includes)?,
+        files: numbered_files(alloc, greatest_of(sources, includes, defines), names)?,
+        built_in: rows,
+    };
+    expand_sources(alloc, limits, &environment, &given, sources)
+}
+
+// The sources one after the other.
+#[tactic(auto, unfolding(crate::specs::Builds::sources_from))]
+fn expand_sources<'a>(
+    alloc: Global,
+    limits: Limits,
+    environment: &Environment<'a>,
+    given: &NameMap<'a, Macro<'a>>,
+    sources: &'a [Tokens],
+) -> Result<Vec<Tokens>, MacroNo>
+    requires { AreBuiltIn environment.now.built_in.now }
+    ensures ok { IfOk result (λ all. spec.sources_from limits.nesting (context_of environment.now) (macros_in given.now)
+        limits.tokens limits.uses [] sources.now ≡ Ok all.items) }
+    ensures err { IfErr result (λ no. Refuses (spec.sources_from limits.nesting (context_of environment.now) (macros_in given.now)
+        limits.tokens limits.uses [] sources.now) no) }
+{
+    let mut all = Vec::new(alloc);
+    let mut room = limits.tokens;
+    let mut uses = limits.uses;
+    for tokens in sources {
+        let mut progress = Progress {
+            macros: Macros::new(alloc, given),
+            produced: Produced {
+                out: Vec::new(alloc),
+                room,
+                uses,
+            },
+        };
+        read_file(
+            alloc,
+            environment,
+            limits.nesting,
+            tokens.list.as_slice(),
+            &mut progress,
+        )?;
+        room = progress.produced.room;
+        uses = progress.produced.uses;
+        all.push(Tokens {
+            file: tokens.file,
+            list: List::new(progress.produced.out),
+        })?;
+    }
+    Ok(all)
+}
+
+// The macros that a build defines before its sources.
+#[tactic(auto, unfolding(crate::specs::Builds::defined))]
+fn given_macros<'a>(
+    alloc: Global,
+    defines: &'a [(Name, Tokens)],
+) -> Result<NameMap<'a, Macro<'a>>, MacroNo>
+    ensures ok { IfOk result (λ macros. spec.defined nothing defines.now ≡ Ok (macros_in macros)) }
+    ensures err { IfErr result (λ no. Refuses (spec.defined nothing defines.now) no) }
+{
+    let mut macros = NameMap::new(alloc);
+    for (name, tokens) in defines {
+        if macros.has(name.as_slice()) {
+            return Err(MacroNo::M6(first_pos(tokens)));
+        }
+        macros.put(name.as_slice(), value_macro(tokens))?;
+    }
+    Ok(macros)
+}
+
+// A macro of a value, whose body is all of it but its end.
+fn value_macro(tokens: &Tokens) -> Macro<'_>
+    ensures { definition_of result ≡ spec.value_definition tokens.now }
+{
+    let list = tokens.list.as_slice();
+    Macro {
+        parameters: None,
+        body: &list[..list.len().saturating_sub(1)],
+        maker: None,
+    }
+}
+
+fn first_pos(tokens: &Tokens) -> Pos
+    ensures { result ≡ spec.first_pos tokens.now.file tokens.now.list }
+{
+    match tokens.list.as_slice() {
+        [] => Pos {
+            file: tokens.file,
+            line: 1,
+        },
+        [token, ..] => token.pos,
+    }
+}
+
+// The files that may be included. Of several of one name the first counts.
+#[tactic(auto, unfolding(crate::specs::Builds::included))]
+fn included_files<'a>(
+    alloc: Global,
+    includes: &'a [(Name, Tokens)],
+) -> Result<NameMap<'a, &'a [Token]>, Memory>
+    ensures { IfOk result (λ files. files_in files ≡ spec.included nothing includes.now) }
+{
+    let mut files = NameMap::new(alloc);
+    for (name, tokens) in includes {
+        files.put_new(name.as_slice(), tokens.list.as_slice())?;
+    }
+    Ok(files)
+}
+
+// The numbers of the files that `#line` names, which come behind the greatest other one.
+#[tactic(auto, unfolding(crate::specs::Builds::numbered))]
+fn numbered_files<'a>(
+    alloc: Global,
+    greatest: u32,
+    names: &'a [Name],
+) -> Result<NameMap<'a, u32>, Memory>
+    requires { greatest + length names.now < 2 ^ 32 }
+    ensures { IfOk result (λ files. names_of files ≡ spec.numbered (greatest + 1) nothing names.now) }
+{
+    let mut files = NameMap::new(alloc);
+    let mut number = greatest;
+    for name in names {
+        number += 1;
+        files.put(name.as_slice(), number)?;
+    }
+    Ok(files)
+}
+
+// The greatest number of a file.
+#[tactic(auto, unfolding(crate::specs::Builds::greatest_file))]
+pub fn greatest_of(
+    sources: &[Tokens],
+    includes: &[(Name, Tokens)],
+    defines: &[(Name, Tokens)],
+) -> u32
+    ensures { result ≡ greatest_file sources.now includes.now defines.now }
+{
+    let mut greatest = 0;
+    for tokens in sources {
+        greatest = tokens.file.max(greatest);
+    }
+    greatest_with(greatest_with(greatest, includes), defines)
+}
+
+fn greatest_with(most: u32, files: &[(Name, Tokens)]) -> u32
+    ensures { result ≡ spec.greatest most (map (λ file. file.1.file) files.now) }
+{
+    let mut greatest = most;
+    for (_, tokens) in files {
+        greatest = tokens.file.max(greatest);
+    }
+    greatest
+}

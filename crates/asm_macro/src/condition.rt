@@ -1,0 +1,62 @@
+ghost use Rattle.std.specs.Prelude.{◌≡◌, IfOk, Some, None, if◌then◌else◌};
+ghost use Rattle.asm_macro.specs.Conditions as spec;
+
+use goasm_base::{Memory, Pos};
+use std::collections::VecDeque;
+
+/// A condition that is open.
+#[derive(Clone, Copy)]
+pub struct Condition {
+    /// Where it begins.
+    pub pos: Pos,
+    /// Whether it is judged; one in a branch that isn't taken is not.
+    pub judged: bool,
+    /// Whether the branch that is read is taken.
+    pub taken: bool,
+    /// Whether its `#else` has come.
+    pub turned: bool,
+}
+
+/// Whether statements behind these conditions count.
+#[tactic(auto, unfolding(crate::specs::Conditions::is_taken))]
+pub fn is_taken(conditions: &VecDeque<Condition>) -> bool
+    ensures { result ≡ spec.is_taken conditions.now.items }
+{
+    match conditions.front() {
+        None => true,
+        Some(condition) => condition.taken,
+    }
+}
+
+/// Goes to the other branch of the innermost condition, at an `#else` that stands alone or not; whether it may stand
+/// there.
+#[tactic(auto, unfolding(crate::specs::Conditions::turned))]
+pub fn turn(conditions: &mut VecDeque<Condition>, alone: bool) -> Result<bool, Memory>
+    ensures { IfOk result
+        (λ may. spec.turned alone conditions.old.items ≡ (if may then Some conditions.new.items else None)) }
+{
+    match conditions.pop_front() {
+        None => Ok(false),
+        Some(condition) if condition.turned || (condition.judged && !alone) => Ok(false),
+        Some(condition) => {
+            conditions.push_front(Condition {
+                pos: condition.pos,
+                judged: condition.judged,
+                taken: condition.judged && !condition.taken,
+                turned: true,
+            })?;
+            Ok(true)
+        }
+    }
+}
+
+/// Leaves the innermost condition, at an `#endif` that stands alone or not; whether it may stand there.
+#[tactic(auto, unfolding(crate::specs::Conditions::left))]
+pub fn leave(conditions: &mut VecDeque<Condition>, alone: bool) -> bool
+    ensures { spec.left alone conditions.old.items ≡ (if result then Some conditions.new.items else None) }
+{
+    match conditions.pop_front() {
+        None => false,
+        Some(condition) => !condition.judged || alone,
+    }
+}

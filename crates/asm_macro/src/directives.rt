@@ -1,0 +1,301 @@
+ghost use Rattle.std.specs.Prelude.{◌≡◌, ◌==◌, ◌∷◌, false, Ok, OnOk, IfOk, IfErr};
+ghost use Rattle.asm_macro.specs.Refusals.{IsFault, Refuses};
+ghost use Rattle.asm_macro.specs.Directives as forms;
+ghost use Rattle.asm_macro.specs.BuiltIn as built_in;
+ghost use Rattle.asm_macro.specs.Files as spec;
+ghost use Rattle.asm_macro.specs.Conditions as conditions;
+ghost use Rattle.asm_macro.specs.Views.{definitions_of, context_of, place_of, state_of, entered_of, AreBuiltIn};
+
+use crate::built_in::{built_in_named, define_rows};
+use crate::condition::{Condition, leave, turn};
+use crate::define::{definition_in, mark_in, name_in, quoted_in};
+use crate::files::{Environment, Position, Progress};
+use crate::keyword::Keyword;
+use crate::macros::Macros;
+use crate::mapping::mapping_from;
+use crate::refusal::MacroNo;
+use asm_lex::Token;
+use goasm_base::Pos;
+use std::alloc::Global;
+
+/// A directive.
+#[derive(Clone, Copy)]
+pub struct Directive<'a> {
+    /// Where it begins.
+    pub pos: Pos,
+    /// The line on which it ends.
+    pub end: u32,
+    pub keyword: Keyword,
+    /// What stands behind its first word.
+    pub words: &'a [Token],
+}
+
+#[tactic(auto, unfolding(crate::specs::Files::define))]
+fn define<'a>(
+    alloc: Global,
+    progress: &mut Progress<'_, 'a>,
+    pos: Pos,
+    words: &'a [Token],
+) -> Result<(), MacroNo>
+    ensures ok { OnOk result
+        (spec.define pos (forms.definition_in words.now) (state_of progress.old) ≡ Ok (state_of progress.new)) }
+    ensures err { IfErr result
+        (λ no. Refuses (spec.define pos (forms.definition_in words.now) (state_of progress.old)) no) }
+{
+    match definition_in(alloc, words)? {
+        None => Err(MacroNo::M5(pos)),
+        Some(named) => {
+            if progress.macros.get(named.name).is_some() {
+                return Err(MacroNo::M6(pos));
+            }
+            progress.macros.define(named.name, named.definition)?;
+            Ok(())
+        }
+    }
+}
+
+#[tactic(auto, unfolding(crate::specs::Files::undefine))]
+fn undefine<'a>(
+    progress: &mut Progress<'_, 'a>,
+    pos: Pos,
+    words: &'a [Token],
+) -> Result<(), MacroNo>
+    ensures ok { OnOk result
+        (spec.undefine pos (forms.name_in words.now) (state_of progress.old) ≡ Ok (state_of progress.new)) }
+    ensures err { IfErr result
+        (λ no. Refuses (spec.undefine pos (forms.name_in words.now) (state_of progress.old)) no) }
+{
+    match name_in(words) {
+        None => Err(MacroNo::M5(pos)),
+        Some(name) => {
+            progress.macros.undefine(name)?;
+            Ok(())
+        }
+    }
+}
+
+// Counts the use of a file.
+fn count_use(progress: &mut Progress<'_, '_>, levels: usize, pos: Pos) -> Result<(), MacroNo>
+    ensures ok { OnOk result (spec.counted levels pos (state_of progress.old) ≡ Ok (state_of progress.new)) }
+    ensures err { IfErr result (λ no. Refuses (spec.counted levels pos (state_of progress.old)) no) }
+{
+    if levels == 0 {
+        return Err(MacroNo::M4(pos));
+    }
+    if progress.produced.uses == 0 {
+        return Err(MacroNo::M7(pos));
+    }
+    progress.produced.uses -= 1;
+    Ok(())
+}
+
+// Defines what a built-in file defines.
+#[tactic(auto, unfolding(crate::specs::Files::include_built_in))]
+fn include_built_in<'a>(
+    environment: &Environment<'a>,
+    progress: &mut Progress<'_, 'a>,
+    levels: usize,
+    pos: Pos,
+    name: &[u8],
+) -> Result<(), MacroNo>
+    requires { AreBuiltIn environment.now.built_in.now }
+    ensures ok { OnOk result (spec.include_built_in levels pos (state_of progress.old) (built_in.built_in_named name.now)
+        ≡ Ok (state_of progress.new)) }
+    ensures err { IfErr result (λ no. Refuses
+        (spec.include_built_in levels pos (state_of progress.old) (built_in.built_in_named name.now)) no) }
+{
+    match built_in_named(name) {
+        None => Err(MacroNo::M1(pos)),
+        Some(file) => {
+            count_use(progress, levels, pos)?;
+            define_rows(
+                &mut progress.macros,
+                file,
+                environment.built_in.of(file),
+                pos,
+            )
+        }
+    }
+}
+
+// Includes a file: one of the build is to be read next.
+#[tactic(auto, unfolding(crate::specs::Files::include, crate::specs::Views::context_of))]
+fn include<'a>(
+    alloc: Global,
+    environment: &Environment<'a>,
+    progress: &mut Progress<'_, 'a>,
+    levels: usize,
+    pos: Pos,
+    words: &'a [Token],
+) -> Result<Option<&'a [Token]>, MacroNo>
+    requires { AreBuiltIn environment.now.built_in.now }
+    ensures ok { IfOk result (λ entered.
+        spec.include (context_of environment.now) levels pos (forms.quoted_in words.now) (state_of progress.old)
+        ≡ Ok (record { state = state_of progress.new; entered = entered_of entered })) }
+    ensures err { IfErr result (λ no. Refuses
+        (spec.include (context_of environment.now) levels pos (forms.quoted_in words.now) (state_of progress.old)) no) }
+{
+    match quoted_in(alloc, words)? {
+        None => Err(MacroNo::M5(pos)),
+        Some(name) => match environment.includes.get(name.as_slice()) {
+            Some(tokens) => {
+                count_use(progress, levels, pos)?;
+                Ok(Some(*tokens))
+            }
+            None => {
+                include_built_in(environment, progress, levels, pos, name.as_slice())?;
+                Ok(None)
+            }
+        },
+    }
+}
+
+// Opens a condition, whose first branch is taken where the name is defined or where it isn't.
+#[tactic(auto, unfolding(crate::specs::Files::open_condition))]
+fn open_condition(
+    macros: &Macros<'_, '_>,
+    position: &mut Position,
+    wanted: bool,
+    pos: Pos,
+    words: &[Token],
+) -> Result<(), MacroNo>
+    ensures ok { OnOk result (spec.open_condition wanted pos (forms.name_in words.now) (definitions_of macros.now) (place_of position.old)
+        ≡ Ok (place_of position.new)) }
+    ensures err { IfErr result (λ no. Refuses
+        (spec.open_condition wanted pos (forms.name_in words.now) (definitions_of macros.now) (place_of position.old)) no) }
+{
+    let Some(name) = name_in(words) else {
+        return Err(MacroNo::M5(pos));
+    };
+    let defined = macros.get(name).is_some();
+    push_condition(position, pos, true, if wanted { defined } else { !defined })
+}
+
+fn push_condition(
+    position: &mut Position,
+    pos: Pos,
+    judged: bool,
+    taken: bool,
+) -> Result<(), MacroNo>
+    ensures ok { OnOk result (place_of position.new ≡ spec.with_conditions (place_of position.old)
+        (record { pos = pos; judged = judged; taken = taken; turned = false } ∷ (place_of position.old).conditions)) }
+    ensures err { IfErr result (λ no. IsFault no → ⊥) }
+{
+    position
+        .conditions
+        .push_front(Condition {
+            pos,
+            judged,
+            taken,
+            turned: false,
+        })
+        .map_err(|_| MacroNo::Memory)
+}
+
+fn turn_condition(position: &mut Position, pos: Pos, alone: bool) -> Result<(), MacroNo>
+    ensures ok { OnOk result (spec.balanced pos (place_of position.old) (conditions.turned alone (place_of position.old).conditions)
+        ≡ Ok (place_of position.new)) }
+    ensures err { IfErr result (λ no. Refuses
+        (spec.balanced pos (place_of position.old) (conditions.turned alone (place_of position.old).conditions)) no) }
+{
+    if turn(&mut position.conditions, alone)? {
+        Ok(())
+    } else {
+        Err(MacroNo::M5(pos))
+    }
+}
+
+fn leave_condition(position: &mut Position, pos: Pos, alone: bool) -> Result<(), MacroNo>
+    ensures ok { OnOk result (spec.balanced pos (place_of position.old) (conditions.left alone (place_of position.old).conditions)
+        ≡ Ok (place_of position.new)) }
+    ensures err { IfErr result (λ no. Refuses
+        (spec.balanced pos (place_of position.old) (conditions.left alone (place_of position.old).conditions)) no) }
+{
+    if leave(&mut position.conditions, alone) {
+        Ok(())
+    } else {
+        Err(MacroNo::M5(pos))
+    }
+}
+
+#[tactic(auto, unfolding(crate::specs::Files::mark, crate::specs::Views::context_of))]
+fn mark(
+    alloc: Global,
+    environment: &Environment<'_>,
+    position: &mut Position,
+    pos: Pos,
+    end: u32,
+    words: &[Token],
+) -> Result<(), MacroNo>
+    ensures ok { OnOk result (spec.mark (context_of environment.now) pos end (forms.mark_in words.now) (place_of position.old)
+        ≡ Ok (place_of position.new)) }
+    ensures err { IfErr result (λ no. Refuses
+        (spec.mark (context_of environment.now) pos end (forms.mark_in words.now) (place_of position.old)) no) }
+{
+    let Some(mark) = mark_in(alloc, words)? else {
+        return Err(MacroNo::M5(pos));
+    };
+    if let Some(file) = environment.files.get(mark.name.as_slice()) {
+        position.mapping = Some(mapping_from(*file, mark.number, end));
+    }
+    Ok(())
+}
+
+/// Does what a directive says, where statements count. The file that it includes, if any, is to be read next.
+#[tactic(auto, unfolding(crate::specs::Files::obey))]
+pub fn obey<'a>(
+    alloc: Global,
+    environment: &Environment<'a>,
+    levels: usize,
+    directive: Directive<'a>,
+    position: &mut Position,
+    progress: &mut Progress<'_, 'a>,
+) -> Result<Option<&'a [Token]>, MacroNo>
+    requires { AreBuiltIn environment.now.built_in.now }
+    ensures ok { IfOk result (λ entered. spec.obey (context_of environment.now) levels directive.entry.pos directive.entry.end directive.entry.words.now
+        (place_of position.old) (state_of progress.old) directive.entry.keyword
+        ≡ Ok (record { place = place_of position.new; state = state_of progress.new; entered = entered_of entered })) }
+    ensures err { IfErr result (λ no. Refuses
+        (spec.obey (context_of environment.now) levels directive.entry.pos directive.entry.end directive.entry.words.now
+        (place_of position.old) (state_of progress.old) directive.entry.keyword) no) }
+{
+    let Directive {
+        pos,
+        end,
+        keyword,
+        words,
+    } = directive;
+    let alone = words.is_empty();
+    match keyword {
+        Keyword::Define => define(alloc, progress, pos, words)?,
+        Keyword::Undef => undefine(progress, pos, words)?,
+        Keyword::Include => return include(alloc, environment, progress, levels, pos, words),
+        Keyword::Ifdef => open_condition(&progress.macros, position, true, pos, words)?,
+        Keyword::Ifndef => open_condition(&progress.macros, position, false, pos, words)?,
+        Keyword::Else => turn_condition(position, pos, alone)?,
+        Keyword::Endif => leave_condition(position, pos, alone)?,
+        Keyword::Line => mark(alloc, environment, position, pos, end, words)?,
+        Keyword::Other => return Err(MacroNo::M5(pos)),
+    }
+    Ok(None)
+}
+
+/// Passes a directive in a branch that isn't taken: only conditions are counted, by their first words.
+#[tactic(auto, unfolding(crate::specs::Files::skip))]
+pub fn skip(directive: Directive<'_>, position: &mut Position) -> Result<(), MacroNo>
+    ensures ok { OnOk result (spec.skip directive.entry.pos directive.entry.words.now (place_of position.old) directive.entry.keyword
+        ≡ Ok (place_of position.new)) }
+    ensures err { IfErr result (λ no. Refuses
+        (spec.skip directive.entry.pos directive.entry.words.now (place_of position.old) directive.entry.keyword) no) }
+{
+    let pos = directive.pos;
+    let alone = directive.words.is_empty();
+    match directive.keyword {
+        Keyword::Ifdef | Keyword::Ifndef => push_condition(position, pos, false, false),
+        Keyword::Else => turn_condition(position, pos, alone),
+        Keyword::Endif => leave_condition(position, pos, alone),
+        Keyword::Define | Keyword::Undef | Keyword::Include | Keyword::Line | Keyword::Other => {
+            Ok(())
+        }
+    }
+}
