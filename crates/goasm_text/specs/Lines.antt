@@ -1,0 +1,79 @@
+-- The line of a refusal, with its newline. A file is named as the list of names has it at the file's number.
+use Rattle.std.specs.Prelude.{ℕ, pos, List, [], ◌∷◌, ◌++◌, slice_index_or, codes, Option, Some, None}
+use Rattle.goasm_base.specs.declared.pos.Pos.{Pos}
+use Rattle.goasm_base.specs.Numbers.{decimal_text}
+use Rattle.asm_lex.specs.declared.refusal.LexNo.{LexNo}
+use Rattle.asm_lex.specs.declared.refusal.LexNo.TheVariants as lexes
+use Rattle.asm_macro.specs.declared.refusal.MacroNo.{MacroNo}
+use Rattle.asm_macro.specs.declared.refusal.MacroNo.TheVariants as macros
+use Rattle.pclntab.specs.declared.fault.TableNo.{TableNo}
+use Rattle.pclntab.specs.declared.fault.TableNo.TheVariants.{TB1, TB2, TB3, TB4, TB5, TB6}
+use Rattle.goasm_text.specs.declared.refusal.Refusal.{Refusal}
+use Rattle.goasm_text.specs.declared.refusal.Refusal.TheVariants.{Lex, Macro, Table}
+
+abbrev pub newline : List ℕ
+newline = 10 ∷ []
+
+-- the name of the file of this number; empty where there is none
+abbrev pub name_in : List (List ℕ) → ℕ → List ℕ
+name_in files number = slice_index_or files number []
+
+-- `FILE:LINE`
+abbrev pub place_text : List (List ℕ) → Pos → List ℕ
+place_text files at = name_in files at.file ++ codes ":" ++ decimal_text (pos at.line)
+
+-- `FILE:LINE: CODE`
+abbrev pub place_line : List (List ℕ) → Pos → List ℕ → List ℕ
+place_line files at code = place_text files at ++ codes ": " ++ code ++ newline
+
+-- why a source has no tokens: a code and its place; want of memory has none
+abbrev pub lex_cause : LexNo → Option (List ℕ × Pos)
+lex_cause (lexes.L1 at) = Some (codes "L1", at)
+lex_cause (lexes.L2 at) = Some (codes "L2", at)
+lex_cause (lexes.L3 at) = Some (codes "L3", at)
+lex_cause (lexes.L4 at) = Some (codes "L4", at)
+lex_cause lexes.Memory = None
+
+-- why sources have no expansion
+abbrev pub macro_cause : MacroNo → Option (List ℕ × Pos)
+macro_cause (macros.M1 at) = Some (codes "M1", at)
+macro_cause (macros.M2 at) = Some (codes "M2", at)
+macro_cause (macros.M3 at) = Some (codes "M3", at)
+macro_cause (macros.M4 at) = Some (codes "M4", at)
+macro_cause (macros.M5 at) = Some (codes "M5", at)
+macro_cause (macros.M6 at) = Some (codes "M6", at)
+macro_cause (macros.M7 at) = Some (codes "M7", at)
+macro_cause macros.Memory = None
+
+-- the line of a code at its place; where there is none, there is no line
+abbrev pub cause_line : List (List ℕ) → Option (List ℕ × Pos) → List ℕ
+cause_line files (Some cause) = place_line files cause.1 cause.0
+cause_line files None = []
+
+-- bytes are no function table: the code and the offset of their first fault
+abbrev pub table_code : TableNo → List ℕ
+table_code (TB1 offset) = codes "TB1"
+table_code (TB2 offset) = codes "TB2"
+table_code (TB3 offset) = codes "TB3"
+table_code (TB4 offset) = codes "TB4"
+table_code (TB5 offset) = codes "TB5"
+table_code (TB6 offset) = codes "TB6"
+
+abbrev pub table_offset : TableNo → ℕ
+table_offset (TB1 offset) = offset
+table_offset (TB2 offset) = offset
+table_offset (TB3 offset) = offset
+table_offset (TB4 offset) = offset
+table_offset (TB5 offset) = offset
+table_offset (TB6 offset) = offset
+
+-- `FILE: CODE at OFFSET`
+abbrev pub table_line : List ℕ → TableNo → List ℕ
+table_line name fault =
+    name ++ codes ": " ++ table_code fault ++ codes " at " ++ decimal_text (pos (table_offset fault)) ++ newline
+
+-- the line of a refusal over these names of files; a table is the first of them
+abbrev pub line_of : Refusal → List (List ℕ) → List ℕ
+line_of (Lex why) files = cause_line files (lex_cause why)
+line_of (Macro why) files = cause_line files (macro_cause why)
+line_of (Table why) files = table_line (name_in files 0) why

@@ -1,0 +1,12 @@
+//! The lines by which refusals are told: a file's name, a line or an offset in it, and a code.
+#![tactic(auto)]
+
+mod lines;
+mod message;
+mod refusal;
+#[cfg(test)]
+mod tests;
+
+pub use lines::push_place;
+pub use message::line_of;
+pub use refusal::Refusal;
