@@ -1,3 +1,5 @@
 mod PlanLemmas
 mod StatusLemmas
 mod Examples
+mod PartLemmas
+mod SourceLemmas

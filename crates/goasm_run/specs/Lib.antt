@@ -1,6 +1,11 @@
 pub mod Plan
 pub mod Lines
 pub mod Lookup
+pub mod Bytes
+pub mod Parts
+pub mod Sources
+pub mod Lists
+pub mod Expand
 pub mod Commands
 pub mod Stops
 pub mod Statuses

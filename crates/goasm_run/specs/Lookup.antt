@@ -9,7 +9,8 @@ use Rattle.pclntab.specs.Faults.{table_fault}
 use Rattle.pclntab.specs.Func.{func_at, name_of, depth_at, line_at, file_at}
 use Rattle.goasm_run.specs.declared.limits.TheConstants.{TABLE}
 use Rattle.goasm_run.specs.Plan.{Plan, Ask, Tell, Refuse}
-use Rattle.goasm_run.specs.Lines.{newline, too_long_line, no_function_line, table_line}
+use Rattle.goasm_text.specs.Lines.{newline, table_line}
+use Rattle.goasm_run.specs.Lines.{too_long_line, no_function_line}
 
 -- a value in decimal, or `?` where there is none
 abbrev pub value_text : Answer → List ℕ

@@ -6,6 +6,10 @@ ghost use Rattle.goasm_run.specs.Commands.{command_of};
 pub enum Command {
     /// `lookup TABLE PC`
     Lookup,
+    /// `bytes TARGET FILE`
+    Bytes,
+    /// `expand LIST`
+    Expand,
 }
 
 impl Command {
@@ -16,6 +20,12 @@ impl Command {
     {
         if word == b"lookup".as_slice() {
             return Some(Command::Lookup);
+        }
+        if word == b"bytes".as_slice() {
+            return Some(Command::Bytes);
+        }
+        if word == b"expand".as_slice() {
+            return Some(Command::Expand);
         }
         None
     }

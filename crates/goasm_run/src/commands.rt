@@ -1,3 +1,5 @@
 //! The commands, a module each: what a command reads, and its text or its first refusal.
 
+pub mod bytes;
+pub mod expand;
 pub mod lookup;

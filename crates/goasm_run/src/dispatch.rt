@@ -1,9 +1,12 @@
 ghost use Rattle.std.specs.Prelude.{◌≡◌, IfOk, IfErr};
 ghost use Rattle.goasm_run.specs.Plan.{Text as Told, ComesTo};
-ghost use Rattle.goasm_run.specs.Commands.{plan_of, plan_of_two};
+ghost use Rattle.goasm_run.specs.Commands.{plan_of, plan_of_one, plan_of_two};
 ghost use Rattle.goasm_run.specs.Stops.{WordsStopped};
 
+use crate::architecture::Architecture;
 use crate::command::Command;
+use crate::commands::bytes::bytes;
+use crate::commands::expand::expand;
 use crate::commands::lookup::lookup;
 use crate::stop::Stop;
 use crate::words::Words;
@@ -16,6 +19,7 @@ pub fn answer<F: Shelf>(alloc: Global, words: &Words, shelf: &mut F) -> Result<B
     ensures stopped { IfErr result (WordsStopped (F.holds shelf.old) (F.faults shelf.old) (F.faults shelf.new) (plan_of words.now)) }
 {
     match words.as_slice() {
+        [word, first] => one_word(alloc, shelf, Command::named(word.as_slice()), first),
         [word, first, second] => two_words(
             alloc,
             shelf,
@@ -24,6 +28,21 @@ pub fn answer<F: Shelf>(alloc: Global, words: &Words, shelf: &mut F) -> Result<B
             second,
         ),
         _ => Err(Stop::Words),
+    }
+}
+
+fn one_word<F: Shelf>(
+    alloc: Global,
+    shelf: &mut F,
+    command: Option<Command>,
+    first: &Bytes,
+) -> Result<Bytes, Stop>
+    ensures text { IfOk result (λ text. ComesTo (F.holds shelf.old) (plan_of_one command first.now) (Told text)) }
+    ensures stopped { IfErr result (WordsStopped (F.holds shelf.old) (F.faults shelf.old) (F.faults shelf.new) (plan_of_one command first.now)) }
+{
+    match command {
+        Some(Command::Expand) => expand(alloc, shelf, first),
+        Some(Command::Lookup | Command::Bytes) | None => Err(Stop::Words),
     }
 }
 
@@ -42,6 +61,10 @@ fn two_words<F: Shelf>(
             Some(pc) => lookup(alloc, shelf, first, pc),
             None => Err(Stop::Words),
         },
-        None => Err(Stop::Words),
+        Some(Command::Bytes) => match Architecture::named(first.as_slice()) {
+            Some(architecture) => bytes(alloc, shelf, architecture, second),
+            None => Err(Stop::Words),
+        },
+        Some(Command::Expand) | None => Err(Stop::Words),
     }
 }

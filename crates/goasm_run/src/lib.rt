@@ -1,13 +1,24 @@
 //! The commands of Goasm: from the words to the text written, with every refusal and its status.
 #![tactic(auto)]
 
+mod architecture;
+#[cfg(test)]
+mod bytes_tests;
 mod command;
 mod commands;
 mod dispatch;
+#[cfg(test)]
+mod expand_tests;
 mod limits;
 mod lines;
+mod list;
+mod part;
+mod parts;
 mod read;
+mod sources;
 mod stop;
+#[cfg(test)]
+mod test_runs;
 #[cfg(test)]
 mod tests;
 mod top;

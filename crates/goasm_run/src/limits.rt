@@ -2,3 +2,12 @@
 
 /// A function table.
 pub const TABLE: usize = 256 << 20;
+
+/// A file of raw code.
+pub const CODE: usize = 16 << 20;
+
+/// A build list.
+pub const LIST: usize = 1 << 20;
+
+/// A source, or a file that sources include.
+pub const SOURCE: usize = 16 << 20;

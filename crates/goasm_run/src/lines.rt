@@ -1,8 +1,10 @@
 // The lines that a command writes to the standard error.
 ghost use Rattle.std.specs.Prelude.{◌≡◌, IfOk};
-ghost use Rattle.goasm_run.specs.Lines.{unread_line, too_long_line, no_function_line, table_code, table_offset, table_line};
+ghost use Rattle.goasm_text.specs.Lines.{table_line};
+ghost use Rattle.goasm_run.specs.Lines.{unread_line, too_long_line, no_function_line, list_line};
 
-use goasm_base::{Bytes, Memory, Text};
+use goasm_base::{Bytes, Memory, Name, Text};
+use goasm_text::{Refusal, line_of};
 use pclntab::TableNo;
 use std::alloc::Global;
 
@@ -40,31 +42,20 @@ pub fn no_function(alloc: Global, name: &[u8], pc: u64) -> Result<Bytes, Memory>
     Ok(line.finish())
 }
 
-pub fn table(alloc: Global, name: &[u8], fault: TableNo) -> Result<Bytes, Memory>
-    ensures { IfOk result (λ line. line ≡ table_line name.now fault) }
+pub fn list_refused(alloc: Global, name: &[u8], number: u32) -> Result<Bytes, Memory>
+    ensures { IfOk result (λ line. line ≡ list_line name.now number) }
 {
-    let (code, offset) = table_fault(fault);
     let mut line = Text::new(alloc);
     line.push(name)?;
-    line.push(b": ")?;
-    line.push(code)?;
-    line.push(b" at ")?;
-    line.push_unsigned(offset)?;
-    line.push(b"\n")?;
+    line.push(b":")?;
+    line.push_unsigned(u64::from(number))?;
+    line.push(b": Q1\n")?;
     Ok(line.finish())
 }
 
-// The code and the offset of a table's fault.
-fn table_fault(fault: TableNo) -> (&'static [u8], u64)
-    ensures code { result.0.now ≡ table_code fault }
-    ensures offset { result.1 ≡ table_offset fault }
+pub fn table(alloc: Global, name: &[u8], fault: TableNo) -> Result<Bytes, Memory>
+    ensures { IfOk result (λ line. line ≡ table_line name.now fault) }
 {
-    match fault {
-        TableNo::TB1(offset) => (b"TB1", offset),
-        TableNo::TB2(offset) => (b"TB2", offset),
-        TableNo::TB3(offset) => (b"TB3", offset),
-        TableNo::TB4(offset) => (b"TB4", offset),
-        TableNo::TB5(offset) => (b"TB5", offset),
-        TableNo::TB6(offset) => (b"TB6", offset),
-    }
+    let names = [Name::new(Vec::from_slice(alloc, name)?)];
+    line_of(alloc, &Refusal::Table(fault), names.as_slice())
 }

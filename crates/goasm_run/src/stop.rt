@@ -1,4 +1,5 @@
 use goasm_base::{Bytes, Memory};
+use std::alloc::{AllocError, AllocFailed};
 
 /// Why a command ends without a text.
 #[derive(Debug, Drop)]
@@ -20,6 +21,28 @@ impl From<Memory> for Stop {
     ghost from_gives = { λ _ stop. stop ≡ OutOfMemory };
 
     fn from(_: Memory) -> Self {
+        Stop::Memory
+    }
+}
+
+impl<T: Drop> From<AllocFailed<T>> for Stop {
+    ghost use Rattle.std.specs.Prelude.{◌≡◌};
+    ghost use Rattle.goasm_run.specs.declared.stop.Stop.TheVariants.{Memory as OutOfMemory};
+
+    ghost from_gives = { λ _ stop. stop ≡ OutOfMemory };
+
+    fn from(_: AllocFailed<T>) -> Self {
+        Stop::Memory
+    }
+}
+
+impl From<AllocError> for Stop {
+    ghost use Rattle.std.specs.Prelude.{◌≡◌};
+    ghost use Rattle.goasm_run.specs.declared.stop.Stop.TheVariants.{Memory as OutOfMemory};
+
+    ghost from_gives = { λ _ stop. stop ≡ OutOfMemory };
+
+    fn from(_: AllocError) -> Self {
         Stop::Memory
     }
 }

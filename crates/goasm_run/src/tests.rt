@@ -1,5 +1,6 @@
-use super::*;
-use goasm_base::{Bytes, MemShelf, MemSink, Name};
+use crate::goasm_main;
+use crate::test_runs::{self, Answer, Failing, NONE, file, sink, words};
+use goasm_base::MemShelf;
 use std::alloc::{AllocError, Global};
 use std::process::Abort;
 use std::test::Fail;
@@ -22,52 +23,18 @@ const EMPTY: [u8; 76] = [
     0, 0, 0, 0, 0, 0, 0, 72, 0, 0, 0, 0, 0, 0, 0, 0, 0, 0, 0,
 ];
 
-fn bytes(alloc: Global, bytes: &[u8]) -> Result<Bytes, AllocError> {
-    Ok(Bytes::new(Vec::from_slice(alloc, bytes)?))
-}
-
-fn words(alloc: Global, list: &[&[u8]]) -> Result<Words, AllocError> {
-    let mut words = Vec::new(alloc);
-    for word in list {
-        words.push(bytes(alloc, word)?)?;
-    }
-    Ok(Words::new(words))
-}
-
-fn shelf(alloc: Global, failing: &[u32]) -> Result<MemShelf, AllocError> {
-    let mut files = Vec::new(alloc);
-    files.push((
-        Name::new(Vec::from_slice(alloc, b"cas.tab")?),
-        bytes(alloc, &CAS)?,
-    ))?;
-    files.push((
-        Name::new(Vec::from_slice(alloc, b"empty.tab")?),
-        bytes(alloc, &EMPTY)?,
-    ))?;
-    Ok(MemShelf::new(files, Vec::from_slice(alloc, failing)?))
-}
-
-fn sink(alloc: Global, failing: &[(u32, u32)]) -> Result<MemSink, AllocError> {
-    Ok(MemSink::new(vec![in alloc; 0u8; 200]?, Vec::from_slice(alloc, failing)?))
-}
-
-// Runs the words, and tests the status and what the two sinks took.
+// Runs the words over these tables, and tests the status and what the two sinks took.
 fn expect<R: Abort>(
     rt: &R,
     alloc: Global,
     list: &[&[u8]],
-    failing: (&[u32], &[(u32, u32)], &[(u32, u32)]),
-    want: (u8, &[u8], &[u8]),
+    failing: Failing<'_>,
+    want: Answer<'_>,
 ) -> Result<(), AllocError> {
-    let words = words(alloc, list)?;
-    let mut files = shelf(alloc, failing.0)?;
-    let mut out = sink(alloc, failing.1)?;
-    let mut err = sink(alloc, failing.2)?;
-    let status = goasm_main(alloc, &words, &mut files, &mut out, &mut err);
-    assert_eq!(rt; out.taken(), want.1, "{list:?}");
-    assert_eq!(rt; err.taken(), want.2, "{list:?}");
-    assert_eq!(rt; status, want.0, "{list:?}");
-    Ok(())
+    let mut files = Vec::new(alloc);
+    files.push(file(alloc, b"cas.tab", &CAS)?)?;
+    files.push(file(alloc, b"empty.tab", &EMPTY)?)?;
+    test_runs::expect(rt, alloc, "a look-up", list, files, failing, want)
 }
 
 #[test]
@@ -97,13 +64,7 @@ fn a_look_up_prints_its_line_or_its_refusal(rt: HostRuntime) -> Result<(), Fail>
         (b"absent", b"1", (4, b"", b"goasm: cannot read absent\n")),
         (b"cas.tab", b"x", (2, b"", b"goasm: words\n")),
     ] {
-        expect(
-            &rt,
-            rt.alloc(),
-            &[b"lookup", table, pc],
-            (&[], &[], &[]),
-            want,
-        )?;
+        expect(&rt, rt.alloc(), &[b"lookup", table, pc], NONE, want)?;
     }
     Ok(())
 }
@@ -111,27 +72,15 @@ fn a_look_up_prints_its_line_or_its_refusal(rt: HostRuntime) -> Result<(), Fail>
 #[test]
 fn words_of_no_form_are_refused(rt: HostRuntime) -> Result<(), Fail> {
     let want = (2, b"".as_slice(), b"goasm: words\n".as_slice());
-    expect(&rt, rt.alloc(), &[], (&[], &[], &[]), want)?;
-    expect(&rt, rt.alloc(), &[b"lookup"], (&[], &[], &[]), want)?;
-    expect(
-        &rt,
-        rt.alloc(),
-        &[b"lookup", b"cas.tab"],
-        (&[], &[], &[]),
-        want,
-    )?;
-    expect(
-        &rt,
-        rt.alloc(),
-        &[b"look", b"cas.tab", b"1"],
-        (&[], &[], &[]),
-        want,
-    )?;
+    expect(&rt, rt.alloc(), &[], NONE, want)?;
+    expect(&rt, rt.alloc(), &[b"lookup"], NONE, want)?;
+    expect(&rt, rt.alloc(), &[b"lookup", b"cas.tab"], NONE, want)?;
+    expect(&rt, rt.alloc(), &[b"look", b"cas.tab", b"1"], NONE, want)?;
     expect(
         &rt,
         rt.alloc(),
         &[b"lookup", b"cas.tab", b"1", b"2"],
-        (&[], &[], &[]),
+        NONE,
         want,
     )?;
     Ok(())
@@ -145,24 +94,43 @@ fn failing_devices_have_their_status(rt: HostRuntime) -> Result<(), Fail> {
         &rt,
         rt.alloc(),
         &look_up,
-        (&[0], &[], &[]),
+        Failing {
+            reads: &[0],
+            ..NONE
+        },
         (4, b"", unread),
     )?;
     expect(
         &rt,
         rt.alloc(),
         &look_up,
-        (&[], &[(0, 4)], &[]),
+        Failing {
+            out: &[(0, 4)],
+            ..NONE
+        },
         (5, b"main", b""),
     )?;
     expect(
         &rt,
         rt.alloc(),
         &look_up,
-        (&[0], &[], &[(0, 6)]),
+        Failing {
+            reads: &[0],
+            out: &[],
+            err: &[(0, 6)],
+        },
         (5, b"", b"goasm:"),
     )?;
-    expect(&rt, rt.alloc(), &[], (&[], &[], &[(0, 0)]), (5, b"", b""))?;
+    expect(
+        &rt,
+        rt.alloc(),
+        &[],
+        Failing {
+            err: &[(0, 0)],
+            ..NONE
+        },
+        (5, b"", b""),
+    )?;
     Ok(())
 }
 
@@ -207,13 +175,10 @@ fn digest(bytes: &[u8], before: u32) -> u32 {
 fn with_answer(alloc: Global, table: &[u8], before: u32) -> Result<u32, AllocError> {
     let words = words(alloc, &[b"lookup", b"cas.tab", b"0x400011"])?;
     let mut files = Vec::new(alloc);
-    files.push((
-        Name::new(Vec::from_slice(alloc, b"cas.tab")?),
-        bytes(alloc, table)?,
-    ))?;
+    files.push(file(alloc, b"cas.tab", table)?)?;
     let mut files = MemShelf::new(files, Vec::new(alloc));
-    let mut out = sink(alloc, &[])?;
-    let mut err = sink(alloc, &[])?;
+    let mut out = sink(alloc, 200, &[])?;
+    let mut err = sink(alloc, 200, &[])?;
     let status = goasm_main(alloc, &words, &mut files, &mut out, &mut err);
     Ok(digest(err.taken(), digest(out.taken(), digest(&[status], before))))
 }

@@ -1,0 +1,176 @@
+ghost use Rattle.std.specs.Prelude.{◌≡◌, ℕ, List, [], ◌++◌, ◌+◌, ◌<◌, ◌^◌, ◌≤◌, length, Bool, false, IfOk, IfErr, OnOk, Ok};
+ghost use Rattle.goasm_base.specs.Shelf.{Reads};
+ghost use Rattle.asm_macro.specs.Builds.{greatest_file, line_names_of, outcome_of};
+ghost use Rattle.goasm_run.specs.declared.stop.Stop.TheVariants as stops;
+ghost use Rattle.goasm_list.specs.Rules.{file_count};
+ghost use Rattle.goasm_run.specs.Plan.{Tell, Text as Told, ComesTo};
+ghost use Rattle.goasm_run.specs.Stops.{AnswerStopped, Stopped};
+ghost use Rattle.goasm_run.specs.Lists.{list_answer};
+ghost use Rattle.goasm_run.specs.Sources.{seen, AreFormed};
+ghost use Rattle.goasm_run.specs.Expand as spec;
+ghost use Rattle.goasm_run.specs.Expand.{token_text, over_outcome, over_sources, expand_answer, expand_lines, expand_plan};
+
+use crate::limits;
+use crate::list::lines_of;
+use crate::part::Part;
+use crate::parts::read_parts;
+use crate::read::read_named;
+use crate::sources::{Sources, file_names, lexed};
+use crate::stop::Stop;
+use asm_lex::{Kind, Token, Tokens};
+use asm_macro::{MacroNo, greatest_of, line_names};
+use goasm_base::{Bytes, Memory, Name, Shelf, Text};
+use goasm_list::ListLine;
+use goasm_text::{Refusal, line_of, push_place};
+use std::alloc::Global;
+
+/// `expand LIST`: every statement of the sources after macros, inclusions and conditions, each with its file and line.
+pub fn expand<F: Shelf>(alloc: Global, shelf: &mut F, list: &Bytes) -> Result<Bytes, Stop>
+    ensures text { IfOk result (λ text. ComesTo (F.holds shelf.old) (expand_plan list.now) (Told text)) }
+    ensures stopped { IfErr result (Stopped (F.holds shelf.old) (F.faults shelf.old) (F.faults shelf.new) (expand_plan list.now)) }
+{
+    match read_named(alloc, shelf, list, limits::LIST) {
+        Ok(bytes) => over_list(alloc, shelf, list.as_slice(), bytes.as_slice()),
+        Err(stop) => Err(stop),
+    }
+}
+
+// The text over the bytes of the list, or the first refusal.
+fn over_list<F: Shelf>(
+    alloc: Global,
+    shelf: &mut F,
+    name: &[u8],
+    bytes: &[u8],
+) -> Result<Bytes, Stop>
+    ensures text { IfOk result (λ text. ComesTo (F.holds shelf.old) (list_answer name.now (expand_lines name.now) bytes.now) (Told text)) }
+    ensures stopped { IfErr result (Stopped (F.holds shelf.old) (F.faults shelf.old) (F.faults shelf.new) (list_answer name.now (expand_lines name.now) bytes.now)) }
+{
+    match lines_of(alloc, name, bytes) {
+        Ok(list) => over_lines(alloc, shelf, name, list.lines.as_slice()),
+        Err(stop) => Err(stop),
+    }
+}
+
+// The text over the lines of the list, or the first refusal.
+fn over_lines<F: Shelf>(
+    alloc: Global,
+    shelf: &mut F,
+    name: &[u8],
+    lines: &[ListLine],
+) -> Result<Bytes, Stop>
+    requires { file_count lines.now ≤ 1000 }
+    ensures text { IfOk result (λ text. ComesTo (F.holds shelf.old) (expand_lines name.now lines.now) (Told text)) }
+    ensures stopped { IfErr result (Stopped (F.holds shelf.old) (F.faults shelf.old) (F.faults shelf.new) (expand_lines name.now lines.now)) }
+{
+    match read_parts(alloc, shelf, lines) {
+        Ok(parts) => answer(alloc, name, parts.as_slice()),
+        Err(stop) => Err(stop),
+    }
+}
+
+// The text over the parts of the build, or the first refusal.
+#[tactic(auto, unfolding(crate::specs::Expand::expand_answer))]
+fn answer(alloc: Global, name: &[u8], parts: &[Part]) -> Result<Bytes, Stop>
+    ensures text { IfOk result (λ text. expand_answer name.now parts.now ≡ Tell text) }
+    ensures stopped { IfErr result (AnswerStopped (expand_answer name.now parts.now)) }
+{
+    let names = file_names(alloc, name, parts)?;
+    match lexed(alloc, names.as_slice(), parts) {
+        Ok(sources) => over_tokens(alloc, names, &sources),
+        Err(stop) => Err(stop),
+    }
+}
+
+fn over_tokens(alloc: Global, names: Vec<Name>, found: &Sources) -> Result<Bytes, Stop>
+    requires { AreFormed (seen found.now) }
+    ensures text { IfOk result (λ text. over_sources names.items (Ok (seen found.now)) ≡ Tell text) }
+    ensures stopped { IfErr result (AnswerStopped (over_sources names.items (Ok (seen found.now)))) }
+{
+    let sources = found.sources.as_slice();
+    let includes = found.includes.as_slice();
+    let more = line_names(alloc, sources, includes)?;
+    let files = with_more(alloc, names, more.as_slice())?;
+    let room = u32::MAX - greatest_of(sources, includes, found.defines.as_slice());
+    if more.len() > room as usize {
+        return Err(Stop::Memory);
+    }
+    over_files(alloc, files.as_slice(), found)
+}
+
+// The text over the tokens of the build and the names of its files, those of `#line` directives included.
+fn over_files(alloc: Global, files: &[Name], found: &Sources) -> Result<Bytes, Stop>
+    requires formed { AreFormed (seen found.now) }
+    requires room { greatest_file (seen found.now).sources (seen found.now).includes (seen found.now).defines
+        + length (line_names_of (seen found.now).sources (seen found.now).includes) < 2 ^ 32 }
+    ensures text { IfOk result (λ text. over_outcome files.now
+        (outcome_of (seen found.now).sources (seen found.now).includes (seen found.now).defines) ≡ Tell text) }
+    ensures stopped { IfErr result (AnswerStopped (over_outcome files.now
+        (outcome_of (seen found.now).sources (seen found.now).includes (seen found.now).defines))) }
+{
+    match asm_macro::expand(
+        alloc,
+        found.sources.as_slice(),
+        found.includes.as_slice(),
+        found.defines.as_slice(),
+    ) {
+        Ok(all) => Ok(text(alloc, files, all.as_slice())?),
+        Err(MacroNo::Memory) => Err(Stop::Memory),
+        Err(no) => Err(Stop::Refused(line_of(alloc, &Refusal::Macro(no), files)?)),
+    }
+}
+
+// The names with more behind them.
+fn with_more(alloc: Global, names: Vec<Name>, more: &[Name]) -> Result<Vec<Name>, Stop>
+    ensures names { IfOk result (λ all. all.items ≡ names.items ++ more.now) }
+    ensures memory { IfErr result (λ stop. stop ≡ stops.Memory) }
+{
+    let mut all = names;
+    let mut rest = more;
+    while let Some((name, behind)) = rest.split_first() {
+        all.push(name.copy(alloc)?)?;
+        rest = behind;
+    }
+    Ok(all)
+}
+
+#[tactic(auto, unfolding(crate::specs::Expand::expanded_text))]
+fn text(alloc: Global, files: &[Name], all: &[Tokens]) -> Result<Bytes, Memory>
+    ensures { IfOk result (λ text. text ≡ spec.expanded_text files.now all.now) }
+{
+    let mut text = Text::new(alloc);
+    let mut rest = all;
+    while let Some((tokens, behind)) = rest.split_first() {
+        push_statements(&mut text, files, tokens.list.as_slice())?;
+        rest = behind;
+    }
+    Ok(text.finish())
+}
+
+// Appends a line for each statement that has a token besides its end.
+#[tactic(auto, unfolding(crate::specs::Expand::statements))]
+fn push_statements(text: &mut Text, files: &[Name], list: &[Token]) -> Result<(), Memory>
+    ensures { OnOk result (text.new ≡ text.old ++ spec.statements files.now false list.now) }
+{
+    let mut begun = false;
+    let mut rest = list;
+    while let Some((token, behind)) = rest.split_first() {
+        push_token(text, files, begun, token)?;
+        begun = !matches!(token.kind, Kind::End);
+        rest = behind;
+    }
+    Ok(())
+}
+
+// Appends what a token gives: the place of a statement's first token, a space and the token, or the end of a line.
+fn push_token(text: &mut Text, files: &[Name], begun: bool, token: &Token) -> Result<(), Memory>
+    ensures { OnOk result (text.new ≡ text.old ++ token_text files.now begun token.now) }
+{
+    if matches!(token.kind, Kind::End) {
+        return if begun { text.push(b"\n") } else { Ok(()) };
+    }
+    if !begun {
+        push_place(text, files, token.pos)?;
+    }
+    text.push(b" ")?;
+    text.push(token.text.as_slice())
+}

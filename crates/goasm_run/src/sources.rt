@@ -1,0 +1,200 @@
+ghost use Rattle.std.specs.Prelude.{◌≡◌, ℕ, List, [], ◌∷◌, length, All, IfOk, IfErr, OnOk, Ok};
+ghost use Rattle.asm_lex.specs.Form.{AreTokens};
+ghost use Rattle.goasm_run.specs.declared.stop.Stop.TheVariants as stops;
+ghost use Rattle.goasm_run.specs.Sources as spec;
+ghost use Rattle.goasm_run.specs.Sources.{seen, AreFormed, LexStopped};
+
+use crate::part::{Part, Role};
+use crate::stop::Stop;
+use crate::{limits, lines};
+use asm_lex::{LexNo, Token, Tokens, lex};
+use goasm_base::{List, Memory, Name, Pos};
+use goasm_text::{Refusal, line_of};
+use std::alloc::Global;
+
+/// The tokens of a build.
+#[derive(Drop)]
+pub struct Sources {
+    /// The sources that are assembled.
+    pub sources: Vec<Tokens>,
+    /// The files that sources include, by their names.
+    pub includes: Vec<(Name, Tokens)>,
+    /// The values of macros, by their names.
+    pub defines: Vec<(Name, Tokens)>,
+}
+
+/// The names of a build's files, by their numbers: that of the list, and those that it names.
+#[tactic(auto, unfolding(crate::specs::Sources::file_names))]
+pub fn file_names(alloc: Global, list: &[u8], parts: &[Part]) -> Result<Vec<Name>, Stop>
+    ensures names { IfOk result (λ names. names.items ≡ spec.file_names (list.now ∷ []) parts.now) }
+    ensures memory { IfErr result (λ stop. stop ≡ stops.Memory) }
+{
+    let mut names = Vec::new(alloc);
+    names.push(Name::new(Vec::from_slice(alloc, list)?))?;
+    let mut rest = parts;
+    while let Some((part, behind)) = rest.split_first() {
+        match part.role {
+            Role::Source | Role::Include => names.push(part.name.copy(alloc)?)?,
+            Role::Value => {}
+        }
+        rest = behind;
+    }
+    Ok(names)
+}
+
+/// The tokens of all parts, or the first refusal in their order.
+#[tactic(auto, unfolding(crate::specs::Sources::lexed, crate::specs::Sources::lexed_from), using(crate::proofs::SourceLemmas::stopped_at))]
+pub fn lexed(alloc: Global, names: &[Name], parts: &[Part]) -> Result<Sources, Stop>
+    ensures tokens { IfOk result (λ found. spec.lexed names.now parts.now ≡ Ok (seen found)) }
+    ensures formed { IfOk result (λ found. AreFormed (seen found)) }
+    ensures stopped { IfErr result (LexStopped (spec.lexed names.now parts.now)) }
+{
+    let mut done = Sources {
+        sources: Vec::new(alloc),
+        includes: Vec::new(alloc),
+        defines: Vec::new(alloc),
+    };
+    let mut rest = parts;
+    while let Some((part, behind)) = rest.split_first() {
+        match add(alloc, names, &mut done, part) {
+            Ok(()) => rest = behind,
+            Err(stop) => return Err(stop),
+        }
+    }
+    Ok(done)
+}
+
+// Adds the tokens of a part.
+#[tactic(auto, unfolding(crate::specs::Sources::with_role))]
+fn add(alloc: Global, names: &[Name], done: &mut Sources, part: &Part) -> Result<(), Stop>
+    requires { AreFormed (seen done.old) }
+    ensures tokens { OnOk result (spec.with_role names.now (seen done.old) part.now.role part.now ≡ Ok (seen done.new)) }
+    ensures formed { OnOk result (AreFormed (seen done.new)) }
+    ensures stopped { IfErr result (LexStopped (spec.with_role names.now (seen done.old) part.now.role part.now)) }
+{
+    match part.role {
+        Role::Source => add_source(alloc, names, done, part),
+        Role::Include => add_include(alloc, names, done, part),
+        Role::Value => add_define(alloc, names, done, part),
+    }
+}
+
+fn add_source(alloc: Global, names: &[Name], done: &mut Sources, part: &Part) -> Result<(), Stop>
+    requires { AreFormed (seen done.old) }
+    ensures tokens { OnOk result (spec.with_source (seen done.old) (spec.lexed_file names.now part.now) ≡ Ok (seen done.new)) }
+    ensures formed { OnOk result (AreFormed (seen done.new)) }
+    ensures stopped { IfErr result (LexStopped (spec.with_source (seen done.old) (spec.lexed_file names.now part.now))) }
+{
+    match lexed_file(alloc, names, part) {
+        Ok(tokens) => Ok(done.sources.push(tokens)?),
+        Err(stop) => Err(stop),
+    }
+}
+
+fn add_include(alloc: Global, names: &[Name], done: &mut Sources, part: &Part) -> Result<(), Stop>
+    requires { AreFormed (seen done.old) }
+    ensures tokens { OnOk result (spec.with_include (seen done.old) part.now.name (spec.lexed_file names.now part.now) ≡ Ok (seen done.new)) }
+    ensures formed { OnOk result (AreFormed (seen done.new)) }
+    ensures stopped { IfErr result (LexStopped (spec.with_include (seen done.old) part.now.name (spec.lexed_file names.now part.now))) }
+{
+    match lexed_file(alloc, names, part) {
+        Ok(tokens) => Ok(done.includes.push((part.name.copy(alloc)?, tokens))?),
+        Err(stop) => Err(stop),
+    }
+}
+
+fn add_define(alloc: Global, names: &[Name], done: &mut Sources, part: &Part) -> Result<(), Stop>
+    requires { AreFormed (seen done.old) }
+    ensures tokens { OnOk result (spec.with_define (seen done.old) part.now.name (spec.lexed_value names.now part.now) ≡ Ok (seen done.new)) }
+    ensures formed { OnOk result (AreFormed (seen done.new)) }
+    ensures stopped { IfErr result (LexStopped (spec.with_define (seen done.old) part.now.name (spec.lexed_value names.now part.now))) }
+{
+    match lexed_value(alloc, names, part) {
+        Ok(tokens) => Ok(done.defines.push((part.name.copy(alloc)?, tokens))?),
+        Err(stop) => Err(stop),
+    }
+}
+
+// The tokens of a file.
+#[tactic(auto, unfolding(crate::specs::Sources::lexed_file))]
+fn lexed_file(alloc: Global, names: &[Name], part: &Part) -> Result<Tokens, Stop>
+    ensures tokens { IfOk result (λ tokens. spec.lexed_file names.now part.now ≡ Ok tokens) }
+    ensures formed { IfOk result AreTokens }
+    ensures stopped { IfErr result (LexStopped (spec.lexed_file names.now part.now)) }
+{
+    let bytes = part.bytes.as_slice();
+    if bytes.len() > limits::SOURCE {
+        return Err(Stop::Refused(lines::too_long(alloc, part.name.as_slice())?));
+    }
+    match lex(alloc, part.file, bytes) {
+        Ok(tokens) => Ok(tokens),
+        Err(LexNo::Memory) => Err(Stop::Memory),
+        Err(no) => Err(Stop::Refused(line_of(alloc, &Refusal::Lex(no), names)?)),
+    }
+}
+
+// The tokens of a value, on the line of the list where it stands.
+#[tactic(auto, unfolding(crate::specs::Sources::lexed_value), using(crate::proofs::SourceLemmas::formed_on))]
+fn lexed_value(alloc: Global, names: &[Name], part: &Part) -> Result<Tokens, Stop>
+    ensures tokens { IfOk result (λ tokens. spec.lexed_value names.now part.now ≡ Ok tokens) }
+    ensures formed { IfOk result AreTokens }
+    ensures stopped { IfErr result (LexStopped (spec.lexed_value names.now part.now)) }
+{
+    match lex(alloc, part.file, part.bytes.as_slice()) {
+        Ok(tokens) => Ok(tokens_on(alloc, part.line, &tokens)?),
+        Err(LexNo::Memory) => Err(Stop::Memory),
+        Err(no) => {
+            let no = refusal_on(part.line, no);
+            Err(Stop::Refused(line_of(alloc, &Refusal::Lex(no), names)?))
+        }
+    }
+}
+
+// The same place on another line.
+fn place_on(line: u32, pos: Pos) -> Pos
+    ensures { result ≡ spec.place_on line pos }
+{
+    Pos {
+        file: pos.file,
+        line,
+    }
+}
+
+fn refusal_on(line: u32, no: LexNo) -> LexNo
+    ensures { result ≡ spec.refusal_on line no }
+{
+    match no {
+        LexNo::L1(pos) => LexNo::L1(place_on(line, pos)),
+        LexNo::L2(pos) => LexNo::L2(place_on(line, pos)),
+        LexNo::L3(pos) => LexNo::L3(place_on(line, pos)),
+        LexNo::L4(pos) => LexNo::L4(place_on(line, pos)),
+        LexNo::Memory => LexNo::Memory,
+    }
+}
+
+fn token_on(alloc: Global, line: u32, token: &Token) -> Result<Token, Memory>
+    ensures { IfOk result (λ moved. moved ≡ spec.token_on line token.now) }
+{
+    Ok(Token {
+        pos: place_on(line, token.pos),
+        glued: token.glued,
+        kind: token.kind,
+        text: token.text.copy(alloc)?,
+    })
+}
+
+// The same tokens on another line.
+fn tokens_on(alloc: Global, line: u32, tokens: &Tokens) -> Result<Tokens, Memory>
+    ensures { IfOk result (λ moved. moved ≡ spec.tokens_on line tokens.now) }
+{
+    let mut list = Vec::new(alloc);
+    let mut rest = tokens.list.as_slice();
+    while let Some((token, behind)) = rest.split_first() {
+        list.push(token_on(alloc, line, token)?)?;
+        rest = behind;
+    }
+    Ok(Tokens {
+        file: tokens.file,
+        list: List::new(list),
+    })
+}
