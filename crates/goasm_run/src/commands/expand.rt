@@ -90,6 +90,7 @@ fn over_tokens(alloc: Global, names: Vec<Name>, found: &Sources) -> Result<Bytes
     let includes = found.includes.as_slice();
     let more = line_names(alloc, sources, includes)?;
     let files = with_more(alloc, names, more.as_slice())?;
+    // A file has a number below 2^32. So many names of `#line` don't fit in memory, which is what the answer says.
     let room = u32::MAX - greatest_of(sources, includes, found.defines.as_slice());
     if more.len() > room as usize {
         return Err(Stop::Memory);
