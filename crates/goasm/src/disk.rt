@@ -13,12 +13,17 @@ const PIECE: usize = 65536;
 #[derive(Drop)]
 pub struct Disk<'a, R: Files> {
     rt: &'a R,
+    reads: u64,
     faults: u64,
 }
 
 impl<'a, R: Files> Disk<'a, R> {
     pub fn new(rt: &'a R) -> Self {
-        Disk { rt, faults: 0 }
+        Disk {
+            rt,
+            reads: 0,
+            faults: 0,
+        }
     }
 }
 
@@ -27,7 +32,10 @@ impl<'a, R: Files> Shelf for Disk<'a, R> {
 
     ghost faults = { λ s _. s.faults };
 
+    ghost reads = { λ s. s.reads };
+
     fn read(&mut self, alloc: Global, name: &[u8], most: usize) -> Result<Bytes, ShelfNo> {
+        self.reads = self.reads.saturating_add(1);
         let result = read_file(self.rt, alloc, name, most);
         if let Err(ShelfNo::Failed) = result {
             self.faults = self.faults.saturating_add(1);

@@ -8,7 +8,7 @@ pub record ShelfState : Type 0 where
   pub files : List (List ℕ × List ℕ)
   -- the numbers of the reads that fail
   pub failing : List ℕ
-  -- how many reads there were, up to the greatest `u32`
+  -- how many reads there were, up to the greatest `u64`
   pub reads : ℕ
   -- how many reads failed, up to the greatest `u64`
   pub faults : ℕ
@@ -25,6 +25,6 @@ read_fails shelf name = list_any (λ n. n == shelf.reads) shelf.failing || is_no
 -- the shelf after a read of this name
 abbrev pub after_read : ShelfState → List ℕ → ShelfState
 after_read shelf name = record shelf {
-  reads = min (shelf.reads + 1) (2 ^ 32 - 1);
+  reads = min (shelf.reads + 1) (2 ^ 64 - 1);
   faults = if read_fails shelf name then min (shelf.faults + 1) (2 ^ 64 - 1) else shelf.faults;
 }

@@ -17,3 +17,7 @@ Reads told name most bytes = (files : Files) → told ≡ Some files → read_of
 -- a count of faults rose, or stands at the greatest `u64`, where it stays
 abbrev pub Rose : ℕ → ℕ → Type 0
 Rose before now = min (before + 1) (2 ^ 64 - 1) ≤ now
+
+-- a count with this many more, where the greatest `u64` isn't passed
+abbrev pub counted : ℕ → ℕ → ℕ
+counted more before = min (before + more) (2 ^ 64 - 1)

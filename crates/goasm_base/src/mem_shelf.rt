@@ -1,5 +1,6 @@
-ghost use Rattle.std.specs.Prelude.{◌≡◌, ℕ, List, ◌+◌, ◌≤◌, true, false, length, take, drop, IfOk, OnOk, IsErrOf, Option, Some, option_copied};
-ghost use Rattle.goasm_base.specs.Shelf.{Reads, Rose};
+ghost use Rattle.std.specs.Prelude.{◌≡◌, ◌==◌, ℕ, List, ◌+◌, ◌≤◌, true, false, length, take, drop, IfOk, OnOk, IsErrOf, Option, Some, option_copied};
+ghost use Rattle.std.specs.List.{list_any};
+ghost use Rattle.goasm_base.specs.Shelf.{Reads, Rose, counted};
 ghost use Rattle.goasm_base.specs.MemShelf.{file_named, read_fails, after_read};
 
 use crate::bytes::Bytes;
@@ -14,7 +15,7 @@ use std::marker::Model;
 pub struct MemShelf {
     files: Vec<(Name, Bytes)>,
     failing: Vec<u32>,
-    reads: u32,
+    reads: u64,
     faults: u64,
 }
 
@@ -53,6 +54,12 @@ fn find<'a>(files: &'a [(Name, Bytes)], name: &[u8]) -> Option<&'a Bytes>
     None
 }
 
+fn is_listed(failing: &[u32], number: u64) -> bool
+    ensures { result ≡ list_any (λ listed. listed == number) failing.now }
+{
+    failing.iter().any(|listed| u64::from(*listed) == number)
+}
+
 fn copied(alloc: Global, bytes: &[u8]) -> Result<Bytes, Memory>
     ensures { IfOk result (λ copy. copy ≡ bytes.now) }
 {
@@ -64,14 +71,18 @@ impl Shelf for MemShelf {
 
     ghost faults = { λ s _. s.faults };
 
+    ghost reads = { λ s. s.reads };
+
     /// Fails exactly where the name is absent or the read's number is listed; otherwise only memory
     /// may be wanting.
     fn read(&mut self, alloc: Global, name: &[u8], most: usize) -> Result<Bytes, ShelfNo>
         ensures bytes { IfOk result (Reads (Some (file_named self.old.files)) name.now most) }
         ensures short { IfOk result (λ bytes. length bytes ≤ most + 1) }
         ensures same { Some (file_named self.new.files) ≡ Some (file_named self.old.files) }
+        ensures counted { self.new.reads ≡ counted 1 self.old.reads }
         ensures faults { (n : List ℕ) → self.old.faults ≤ self.new.faults }
         ensures failed { IsErrOf result ShelfNo.Failed → Rose self.old.faults self.new.faults }
+        ensures unfailed { OnOk result ((n : List ℕ) → self.new.faults ≡ self.old.faults) }
 
         ensures state { self.new ≡ after_read self.old name.now }
         ensures reads { OnOk result (read_fails self.old name.now ≡ false) }
@@ -80,7 +91,7 @@ impl Shelf for MemShelf {
     {
         let number = self.reads;
         self.reads = self.reads.saturating_add(1);
-        if self.failing.contains(&number) {
+        if is_listed(self.failing.as_slice(), number) {
             self.faults = self.faults.saturating_add(1);
             return Err(ShelfNo::Failed);
         }

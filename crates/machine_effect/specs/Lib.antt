@@ -6,6 +6,8 @@ pub mod Values
 pub mod FlagsAfter
 pub mod Applies
 pub mod Flow
+pub mod Shapes
+pub mod Bounds
 pub mod Steps
 pub mod OperationCases
 pub mod FlagCases
