@@ -12,14 +12,23 @@ pub const RECORD_SIZE: usize = 44;
 
 // Where the fields of the header stand.
 pub const ZEROS_FIELD: usize = 4;
+
 pub const QUANTUM_FIELD: usize = 6;
+
 pub const POINTER_SIZE_FIELD: usize = 7;
+
 pub const FUNC_COUNT_FIELD: usize = 8;
+
 pub const TEXT_START_FIELD: usize = 24;
+
 pub const NAMES_START_FIELD: usize = 32;
+
 pub const UNITS_START_FIELD: usize = 40;
+
 pub const FILES_START_FIELD: usize = 48;
+
 pub const PCS_START_FIELD: usize = 56;
+
 pub const FUNCS_START_FIELD: usize = 64;
 
 pub fn quantum(bytes: &[u8]) -> u8
