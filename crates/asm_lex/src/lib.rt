@@ -19,6 +19,3 @@ mod words;
 pub use lexer::lex;
 pub use refusal::LexNo;
 pub use token::{Kind, Token, Tokens};
-
-#[cfg(test)]
-mod tests;

@@ -29,10 +29,12 @@ also : (here before : Bool) → cond here true before ≡ (before || here)
 also true before = sym (or_right before true refl)
 also false before = sym (or-false before)
 
-pub adds_name : (old new : BTreeSet (Bor (List ℕ))) (name : Bor (List ℕ))
-    → Updates by_bytes old new name true → AddsName (names_of old) (names_of new) name.now
-adds_name old new name updates other =
+-- over the names that the set is known to hold
+pub adds_name : (old new : BTreeSet (Bor (List ℕ))) (name : Bor (List ℕ)) (names : List (List ℕ)) → names_of old ≡ names
+    → Updates by_bytes old new name true → AddsName names (names_of new) name.now
+adds_name old new name names is updates other =
     let key : Bor (List ℕ) = record { ref_ptr = (0, 0); now = other } in
-    sym (contains_is_among other new) ∙ updates.0 key
+    rw (← is)
+    (sym (contains_is_among other new) ∙ updates.0 key
     ∙ also (is_at (by_bytes name) key) (contains by_bytes old key)
-    ∙ rw (contains_is_among other old, is_eq-slice_cmp name.now other) refl
+    ∙ rw (contains_is_among other old, is_eq-slice_cmp name.now other) refl)

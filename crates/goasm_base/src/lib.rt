@@ -14,8 +14,6 @@ mod shelf;
 mod sink;
 mod slices;
 mod statement;
-#[cfg(test)]
-mod tests;
 mod text;
 
 pub use bytes::{Bytes, Name};

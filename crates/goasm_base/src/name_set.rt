@@ -40,6 +40,7 @@ impl<'a> NameSet<'a> {
     }
 
     /// Adds a name, and says whether it wasn't seen before.
+    #[tactic(auto, using(crate::proofs::NameSetLemmas::adds_name))]
     pub fn insert(&mut self, name: &'a [u8]) -> Result<bool, Memory>
         ensures adds { OnOk result (AddsName self.old self.new name.now) }
         ensures added { IfOk result (λ is_new. is_new ≡ not (is_among name.now self.old)) }

@@ -8,8 +8,6 @@ mod line;
 mod read;
 mod reader;
 mod symbols;
-#[cfg(test)]
-mod tests;
 mod words;
 
 pub use fault::ListNo;

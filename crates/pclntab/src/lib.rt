@@ -9,8 +9,6 @@ mod names;
 mod pc_tables;
 mod places;
 mod table;
-#[cfg(test)]
-mod tests;
 mod words;
 
 pub use fault::TableNo;

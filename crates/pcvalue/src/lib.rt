@@ -6,8 +6,6 @@ mod answer;
 mod lookup;
 mod run;
 mod step;
-#[cfg(test)]
-mod tests;
 mod varint;
 
 pub use answer::Answer;

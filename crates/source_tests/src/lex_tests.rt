@@ -1,4 +1,4 @@
-use crate::{Kind, LexNo, Token, lex};
+use asm_lex::{Kind, LexNo, Token, lex};
 use goasm_base::{Memory, Pos, Text};
 use std::alloc::Global;
 use std::test::Fail;

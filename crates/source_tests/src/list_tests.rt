@@ -1,4 +1,4 @@
-use crate::{LineKind, ListNo, read_list};
+use goasm_list::{LineKind, ListNo, read_list};
 use std::alloc::{AllocError, Global};
 use std::process::Abort;
 use std::test::Fail;

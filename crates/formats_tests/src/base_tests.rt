@@ -1,5 +1,8 @@
-use super::*;
 use arrayvec::ArrayVec;
+use goasm_base::{
+    Bytes, List, MemShelf, MemSink, Name, NameSet, Pos, Shelf, ShelfNo, Sink, Text, behind,
+    behind_or_empty, digit_value, read_number, show_decimal, show_hex,
+};
 use std::alloc::Global;
 use std::process::Abort;
 use std::test::Fail;
@@ -49,11 +52,56 @@ fn numbers_are_read(rt: HostRuntime) {
 }
 
 #[test]
+fn digits_have_their_values(rt: HostRuntime) {
+    for (base, glyph, want) in [
+        (10, b'9', Some(9)),
+        (10, b'a', None),
+        (16, b'f', Some(15)),
+        (16, b'F', Some(15)),
+        (16, b'g', None),
+        (16, 0xFF, None),
+    ] {
+        assert_eq!(rt; digit_value(base, glyph), want, "{glyph}");
+    }
+}
+
+#[test]
+fn bytes_behind_a_place(rt: HostRuntime) {
+    assert_eq!(rt; behind(b"abc", 1), b"bc".as_slice());
+    for (at, want) in [
+        (0, b"abc".as_slice()),
+        (3, b""),
+        (4, b""),
+        (usize::MAX, b""),
+    ] {
+        assert_eq!(rt; behind_or_empty(b"abc", at), want);
+    }
+}
+
+#[test]
+fn names_are_seen_once(rt: HostRuntime) -> Result<(), Fail> {
+    let mut names = NameSet::new(rt.alloc());
+    for (name, is_new) in [
+        (b"b".as_slice(), true),
+        (b"a", true),
+        (b"b", false),
+        (b"", true),
+        (b"ab", true),
+    ] {
+        assert_eq!(rt; names.contains(name), !is_new, "{name:?}");
+        assert_eq!(rt; names.insert(name)?, is_new, "{name:?}");
+        assert!(rt; names.contains(name), "{name:?}");
+    }
+    assert!(rt; !names.contains(b"c"));
+    Ok(())
+}
+
+#[test]
 fn names_and_texts_are_kept(rt: HostRuntime) -> Result<(), Fail> {
     let alloc = rt.alloc();
-    let name = Name::new(Vec::from_slice(alloc, b"main.Cas")?);
+    let name = Name::from_slice(alloc, b"main.Cas")?;
     assert_eq!(rt; name.copy(alloc)?.as_slice(), b"main.Cas".as_slice());
-    let bytes = Bytes::new(Vec::from_slice(alloc, b"\x01\x02")?);
+    let bytes = Bytes::from_slice(alloc, b"\x01\x02")?;
     assert_eq!(rt; bytes.copy(alloc)?.as_slice(), b"\x01\x02".as_slice());
     let list = List::new(Vec::from_slice(alloc, &[Pos { file: 1, line: 2 }])?);
     assert_eq!(rt; list.as_slice(), [Pos { file: 1, line: 2 }].as_slice());
@@ -101,8 +149,10 @@ fn memory_shelf_reads_by_name_and_number(rt: HostRuntime) -> Result<(), Fail> {
     let alloc = rt.alloc();
     let mut files = Vec::new(alloc);
     for (name, bytes) in [(b"a", b"first"), (b"a", b"other"), (b"b", b"third")] {
-        let name = Name::new(Vec::from_slice(alloc, name)?);
-        files.push((name, Bytes::new(Vec::from_slice(alloc, bytes)?)))?;
+        files.push((
+            Name::from_slice(alloc, name)?,
+            Bytes::from_slice(alloc, bytes)?,
+        ))?;
     }
     let mut shelf = MemShelf::new(files, Vec::from_slice(alloc, &[2])?);
     expect_read(&rt, read(alloc, &mut shelf, b"a", 9), Some(b"first"));

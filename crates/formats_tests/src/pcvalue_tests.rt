@@ -1,4 +1,4 @@
-use super::*;
+use pcvalue::{Answer, is_pc_table, value_at};
 
 // No table at 0, then the depths and the lines of a function of 23 bytes.
 const TABLES: [u8; 17] = [0, 2, 23, 0, 8, 5, 2, 4, 2, 4, 4, 4, 2, 5, 2, 1, 0];

@@ -1,4 +1,4 @@
-use super::*;
+use pclntab::{Table, TableNo};
 use pcvalue::Answer;
 use std::process::Abort;
 use std::test::Fail;
