@@ -1,4 +1,4 @@
-ghost use Rattle.std.specs.Prelude.{◌≡◌, ℕ, IfOk, IfSome, Some};
+ghost use Rattle.std.specs.Prelude.{◌≡◌, ℕ, IfOk, IfSome, Option, Some};
 ghost use Rattle.machine_effect.specs.declared.flow.Shape.{Shape};
 ghost use Rattle.asm_target.specs.Architecture.{IsArchitecture};
 ghost use Rattle.asm_target.specs.InstructionSet.{InstructionSet, IsFirst};
@@ -12,14 +12,14 @@ use std::alloc::Global;
 /// The bytes of one instruction.
 pub type Spelled = ArrayVec<u8, 15>;
 
-/// A target: an instruction set with its spellings, effects and texts.
+/// A processor: an instruction set with its spellings, effects and texts, and the registers of its calls.
 ///
 /// The ghost members above the methods are what the instructions mean. Those below are laws, which hold of
-/// every target. A law speaks of all numbers where a field of an instruction has a type such as `u8`, so
+/// every processor. A law speaks of all numbers where a field of an instruction has a type such as `u8`, so
 /// each has the premise that the instruction `fits`; `spell` and `effect` tell that of every instruction
 /// that code holds.
-pub trait Target {
-    /// One instruction of the target's list.
+pub trait Processor {
+    /// One instruction of the processor's list.
     type Instr: Copy + Default;
 
     /// The machine number in an ELF header: 62 for amd64, 183 for arm64, 243 for riscv64.
@@ -31,11 +31,18 @@ pub trait Target {
     /// The registers of the stack pointer and of a call's return address.
     const SHAPE: Shape;
 
+    /// The register that holds, before a call of the routine that grows the stack, what the link register held
+    /// at the function's entry. Go's `runtime.morestack` finds the caller's return address there: R3 on arm64,
+    /// the link register itself on riscv64, and no register on amd64, which has that address on the stack.
+    const GROWTH: Option<u8>;
+
     ghost MACHINE: { ℕ };
 
     ghost QUANTUM: { ℕ };
 
     ghost SHAPE: { Shape };
+
+    ghost GROWTH: { Option ℕ };
 
     /// The spelling of each instruction, and at each address its effect and its text.
     ghost instructions: { InstructionSet Self.Instr };
@@ -66,8 +73,8 @@ pub trait Target {
 
     // Laws. They stay below the last method: a ghost member above one is data.
 
-    /// The machine, the quantum and the shape are those of amd64, arm64 or riscv64.
-    ghost architecture: { IsArchitecture (record { machine = MACHINE; quantum = QUANTUM; shape = SHAPE }) };
+    /// The machine, the quantum and the registers of calls are those of amd64, arm64 or riscv64.
+    ghost architecture: { IsArchitecture (record { machine = MACHINE; quantum = QUANTUM; shape = SHAPE; growth = GROWTH }) };
 
     /// A spelling has 1 to 15 bytes, in whole quanta.
     ghost lengths: { laws.HasLengths instructions fits QUANTUM };
@@ -81,4 +88,17 @@ pub trait Target {
 
     /// Where an effect moves the stack pointer by a constant, that is from -2^31 to 2^31.
     ghost small_moves: { laws.HasSmallMoves instructions fits SHAPE };
+
+    // At each address below 2^64.
+
+    /// An effect names 33 general registers and 16 X registers, accesses of 1 to 16 bytes, operations of 1 to
+    /// 128 bits, and the scales 1, 2, 4 and 8; what it loads isn't part of an address.
+    ghost bounded: { laws.HasBoundedEffects instructions fits };
+
+    /// Where the machine doesn't go on behind an instruction, the instruction stores nothing and writes no flag
+    /// and no register, but for the link of a call.
+    ghost only_goes: { laws.HasOnlyGoing instructions fits };
+
+    /// A call has a link exactly where there is a link register, and the link isn't the stack pointer.
+    ghost links: { laws.HasLinks instructions fits SHAPE };
 }
