@@ -1,3 +1,5 @@
 pub mod Architecture
 pub mod InstructionSet
 pub mod Laws
+pub mod Sequences
+pub mod DepthChange
