@@ -3,3 +3,5 @@ pub mod InstructionSet
 pub mod Laws
 pub mod Sequences
 pub mod DepthChange
+pub mod FlowFunction
+pub mod FlowRules
