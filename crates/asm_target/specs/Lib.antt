@@ -5,3 +5,4 @@ pub mod Sequences
 pub mod DepthChange
 pub mod FlowFunction
 pub mod FlowRules
+pub mod Runs
