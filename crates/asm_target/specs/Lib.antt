@@ -6,3 +6,5 @@ pub mod DepthChange
 pub mod FlowFunction
 pub mod FlowRules
 pub mod Runs
+pub mod DepthCases
+pub mod FlowCases

@@ -1,6 +1,8 @@
-ghost use Rattle.std.specs.Prelude.{◌≡◌, ◌↔◌, ◌+◌, ◌++◌, ℕ, List, length};
-ghost use Rattle.std.specs.List.{flat_map};
+ghost use Rattle.std.specs.Prelude.{◌≡◌, ◌↔◌, ◌+◌, ◌++◌, ℕ, List, length, IsTrue};
+ghost use Rattle.std.specs.List.{flat_map, list_all};
 ghost use Rattle.machine_effect.specs.declared.state.State.{State};
+ghost use Rattle.asm_target.specs.DepthCases.{moves_count, sequences_count, some_do_not, first_may_be_hit};
+ghost use Rattle.asm_target.specs.FlowCases.{is_met, stack_cases, linked_cases};
 ghost use Rattle.asm_target.specs.InstructionSet.{IsListing};
 ghost use Rattle.asm_target.specs.Runs.{PlacedEffect, Leads, LeadsOver};
 
@@ -29,4 +31,14 @@ pub fn runs_append<T: Processor>()
         → LeadsOver T.instructions (code ++ more) at before after
         ↔ ((between : State) × LeadsOver T.instructions code at before between
         × LeadsOver T.instructions more (at + length (flat_map T.instructions.spelling code)) between after) }
+{}
+
+// What changes the depth of small lists of instructions, and which rules small functions break.
+fn meets_cases()
+    ensures moves { IsTrue moves_count }
+    ensures sequences { IsTrue sequences_count }
+    ensures unlike { IsTrue some_do_not }
+    ensures first { IsTrue first_may_be_hit }
+    ensures stack { IsTrue (list_all is_met stack_cases) }
+    ensures linked { IsTrue (list_all is_met linked_cases) }
 {}
