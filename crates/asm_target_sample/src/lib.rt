@@ -8,8 +8,6 @@ mod make;
 mod register;
 mod run;
 mod sample;
-#[cfg(test)]
-mod tests;
 
 pub use instr::Instr;
 pub use register::Register;

@@ -4,8 +4,6 @@
 mod code;
 mod laws;
 mod line;
-#[cfg(test)]
-mod tests;
 
 pub use code::raw;
 pub use laws::{one_raw_text, raw_text_by_reading};
