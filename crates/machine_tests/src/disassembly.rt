@@ -1,6 +1,6 @@
-use super::*;
 use asm_target_sample::Sample;
 use std::test::Fail;
+use text_dis::{one_raw_text, raw, raw_text_by_reading};
 
 #[test]
 fn code_is_shown_by_lines(rt: HostRuntime) -> Result<(), Fail> {

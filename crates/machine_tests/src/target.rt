@@ -1,5 +1,8 @@
-use super::*;
-use asm_target::{Target, first_instr, flow_at, one_listing, same};
+use asm_target::{
+    Few, Part, Picked, Processor, Refer, To, first_instr, flow_at, one_listing, runs_append,
+    runs_cut, same,
+};
+use asm_target_sample::{Instr, Register, Sample, count_moves, depth_after, read_all, spell_all};
 use goasm_base::Memory;
 use machine_effect::{Next, Shape, SpMove};
 use std::alloc::Global;
@@ -12,7 +15,7 @@ const MOVE: Instr = Instr::Move {
 };
 
 // Spells, reads and shows an instruction at 0x400000, through the trait alone.
-fn expect<T: Target, R: Abort>(
+fn expect<T: Processor, R: Abort>(
     rt: &R,
     alloc: Global,
     instr: &T::Instr,
@@ -78,9 +81,12 @@ fn other_bytes_are_not_read(rt: HostRuntime) {
 #[test]
 fn flow_is_that_of_the_effect(rt: HostRuntime) {
     one_listing::<Sample>();
+    runs_cut();
+    runs_append::<Sample>();
     assert_eq!(rt; Sample::MACHINE, 62);
     assert_eq!(rt; Sample::QUANTUM, 1);
     assert_eq!(rt; Sample::SHAPE, Shape { sp: 4, link: None });
+    assert_eq!(rt; Sample::GROWTH, None);
     for (instr, sp, next) in [
         (Instr::Nop, SpMove::Keep, Next::Fall),
         (
@@ -121,4 +127,39 @@ fn a_run_is_read_and_spelled_again(rt: HostRuntime) -> Result<(), Fail> {
         b"\x50\x48\x89\xc3\x48\x83\xc4\x08\xe9\xfb\xff\xff\xff\xc3".as_slice()
     );
     Ok(())
+}
+
+// Appends items through the type parameter alone, each made of its number, until the list is full.
+fn filled<I: Copy + Default, F: Fn(u8) -> I>(make: F) -> Few<I>
+    requires { F.IsAlwaysCallable make }
+{
+    let mut few = Few::new();
+    for number in 0..20 {
+        if few.len() < 14 {
+            few.push(make(number));
+        }
+    }
+    few
+}
+
+fn to_statement(number: u8) -> Picked<Instr> {
+    Picked {
+        instr: Instr::Push(Register::Di),
+        refer: Some(Refer {
+            to: To::Stmt(u32::from(number)),
+            part: Part::Whole,
+        }),
+    }
+}
+
+#[test]
+fn few_items_are_kept_in_order(rt: HostRuntime) {
+    assert_eq!(rt; Few::<Picked<Instr>>::new().len(), 0);
+    let few = filled(to_statement);
+    assert_eq!(rt; few.len(), 14);
+    for number in 0..14u8 {
+        if usize::from(number) < few.len() {
+            assert_eq!(rt; few.get(usize::from(number)), to_statement(number));
+        }
+    }
 }
