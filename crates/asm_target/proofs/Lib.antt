@@ -1,3 +1,4 @@
+pub mod BreachLemmas
 pub mod FlowLemmas
 pub mod ListingLemmas
 pub mod RunLemmas

@@ -4,8 +4,8 @@ use Rattle.machine_effect.specs.declared.flow.Shape.{Shape}
 use Rattle.machine_effect.specs.Shapes.{amd64_shape, arm64_shape, riscv64_shape}
 
 -- a machine number of ELF, the unit of instruction lengths in bytes, the registers of the stack pointer and of a call's return
--- address, and the register in which the routine that grows the stack finds the return address of its caller's caller, if one
--- does: registers by the numbers that a machine's state gives them
+-- address, and the register in which the routine that grows the stack finds its caller's return address, if one does: registers
+-- by the numbers that a machine's state gives them
 pub record Architecture : Type 0 where
   pub machine : ℕ
   pub quantum : ℕ

@@ -53,7 +53,7 @@ is_at_depth (Saving count total) depth = true
 is_at_depth (Restoring count total) depth = total == depth
 is_at_depth _ depth = false
 
--- which instructions have how many instructions in a sequence at most
+-- the most instructions that a sequence has: those that make a frame of more than 2,032 bytes on riscv64
 abbrev pub longest : ℕ
 longest = 5
 

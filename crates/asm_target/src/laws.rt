@@ -3,6 +3,8 @@ ghost use Rattle.std.specs.List.{flat_map, list_all};
 ghost use Rattle.machine_effect.specs.declared.state.State.{State};
 ghost use Rattle.asm_target.specs.DepthCases.{moves_count, sequences_count, some_do_not, first_may_be_hit};
 ghost use Rattle.asm_target.specs.FlowCases.{is_met, stack_cases, linked_cases};
+ghost use Rattle.asm_target.specs.FlowFunction.{FlowFunction};
+ghost use Rattle.asm_target.specs.FlowRules.{Breach, IsFirstBreach, IsFlowSound};
 ghost use Rattle.asm_target.specs.InstructionSet.{IsListing};
 ghost use Rattle.asm_target.specs.Runs.{PlacedEffect, Leads, LeadsOver};
 
@@ -31,6 +33,13 @@ pub fn runs_append<T: Processor>()
         → LeadsOver T.instructions (code ++ more) at before after
         ↔ ((between : State) × LeadsOver T.instructions code at before between
         × LeadsOver T.instructions more (at + length (flat_map T.instructions.spelling code)) between after) }
+{}
+
+/// A function that breaks a flow rule has one first breach, and only a function without one is sound.
+pub fn one_breach()
+    ensures one { (f : FlowFunction) (one other : Breach)
+        → IsFirstBreach f one → IsFirstBreach f other → one ≡ other }
+    ensures unsound { (f : FlowFunction) (breach : Breach) → IsFirstBreach f breach → ¬ IsFlowSound f }
 {}
 
 // What changes the depth of small lists of instructions, and which rules small functions break.

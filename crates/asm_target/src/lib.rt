@@ -20,7 +20,7 @@ pub use compare::begins_with;
 pub use few::Few;
 pub use frame::{FrameShape, Guard, Site};
 pub use instr::{first_instr, flow_at, same};
-pub use laws::{one_listing, runs_append, runs_cut};
+pub use laws::{one_breach, one_listing, runs_append, runs_cut};
 pub use processor::{Processor, Spelled};
 pub use refer::{Part, Picked, Refer, To};
 pub use sequence::Sequence;

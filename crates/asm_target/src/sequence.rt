@@ -1,4 +1,4 @@
-/// What instructions do together that none of them does alone.
+/// What instructions that follow one another do together, where the rules on the stack's depth take them as one.
 #[derive(Clone, Copy, Debug, Default, PartialEq, Eq)]
 pub enum Sequence {
     /// Nothing: each is judged by itself.

@@ -1,5 +1,5 @@
 use asm_target::{
-    Few, Part, Picked, Processor, Refer, To, first_instr, flow_at, one_listing, runs_append,
+    Few, Part, Picked, Processor, Refer, To, first_instr, flow_at, one_breach, one_listing, runs_append,
     runs_cut, same,
 };
 use asm_target_sample::{Instr, Register, Sample, count_moves, depth_after, read_all, spell_all};
@@ -80,6 +80,7 @@ fn other_bytes_are_not_read(rt: HostRuntime) {
 
 #[test]
 fn flow_is_that_of_the_effect(rt: HostRuntime) {
+    one_breach();
     one_listing::<Sample>();
     runs_cut();
     runs_append::<Sample>();
