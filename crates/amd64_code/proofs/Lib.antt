@@ -1,0 +1,11 @@
+pub mod RegisterLaws
+pub mod ConstantLaws
+pub mod HeadLaws
+pub mod ModRmLaws
+pub mod PartLaws
+pub mod OneByteLaws
+pub mod TwoByteLaws
+pub mod Laws
+pub mod LengthLaws
+pub mod PaddingLaws
+pub mod FirstLaws

@@ -2,15 +2,16 @@
 use Rattle.std.specs.Prelude.{ℕ, ℤ, pos, Bool, List, [], ◌∷◌, ◌++◌, ◌+◌, ◌*◌, ◌/◌, ◌%◌, ◌==◌, ◌&&◌, not, drop, slice_index, if◌then◌else◌}
 use Rattle.machine_effect.specs.Numbers.{fits as fits_bits}
 use Rattle.amd64_table.specs.declared.reg.Reg.{Reg}
-use Rattle.amd64_table.specs.declared.operand.Scale.{Scale}
-use Rattle.amd64_table.specs.declared.operand.Scale.TheVariants as scales
-use Rattle.amd64_table.specs.declared.operand.Mem.{Mem}
-use Rattle.amd64_table.specs.declared.operand.Mem.TheVariants as memory
-use Rattle.amd64_table.specs.declared.operand.Rm.{Rm}
-use Rattle.amd64_table.specs.declared.operand.Rm.TheVariants as operand
+use Rattle.amd64_table.specs.declared.memory.Scale.{Scale}
+use Rattle.amd64_table.specs.declared.memory.Scale.TheVariants as scales
+use Rattle.amd64_table.specs.declared.memory.Mem.{Mem}
+use Rattle.amd64_table.specs.declared.memory.Mem.TheVariants as memory
+use Rattle.amd64_table.specs.declared.memory.Rm.{Rm}
+use Rattle.amd64_table.specs.declared.memory.Rm.TheVariants as operand
 use Rattle.amd64_table.specs.Registers.{low_bits}
-use Rattle.amd64_table.specs.Lengths.{is_none, one_if}
+use Rattle.amd64_table.specs.Operands.{is_none}
 use Rattle.amd64_code.specs.Constants.{byte_of, long_of, byte_in, long_in}
+use Rattle.amd64_code.specs.Heads.{one_if}
 use Rattle.amd64_code.specs.Registers.{reg_at}
 
 -- the byte ModRM, and the byte SIB, of three fields
@@ -86,8 +87,8 @@ abbrev pub disp_size : ℕ → ℕ
 disp_size mode = if mode == 0 then 0 else (if mode == 1 then 1 else 4)
 
 -- how many bytes ModRM, SIB and displacement are
-unfoldable pub place_size : List ℕ → ℕ
-place_size bytes =
+unfoldable pub operand_size : List ℕ → ℕ
+operand_size bytes =
     if slice_index bytes 0 / 64 == 3 then 1
     else (if slice_index bytes 0 / 64 == 0 && low_in bytes == 5 then 5
     else 1 + one_if (low_in bytes == 4) + disp_size (slice_index bytes 0 / 64))
