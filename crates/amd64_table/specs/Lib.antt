@@ -2,9 +2,7 @@ pub mod Registers
 pub mod Conditions
 pub mod Operands
 pub mod Fits
-pub mod Lengths
 pub mod Shapes
 pub mod Effects
 pub mod Texts
-pub mod Moves
-pub mod EffectCases
+pub mod StackMoves

@@ -23,15 +23,15 @@ use Rattle.machine_effect.specs.declared.flag_rule.FlagRule.TheVariants as flags
 use Rattle.machine_effect.specs.declared.next.Next.{Next}
 use Rattle.machine_effect.specs.declared.next.Next.TheVariants as next
 use Rattle.machine_effect.specs.Numbers.{moved_by}
-use Rattle.amd64_table.specs.declared.code.Cc.{Cc}
+use Rattle.amd64_table.specs.declared.condition.Cc.{Cc}
 use Rattle.amd64_table.specs.declared.reg.Reg.{Reg}
 use Rattle.amd64_table.specs.declared.reg.Reg.TheVariants.{Ax, Cx, Dx, Bx, Sp}
 use Rattle.amd64_table.specs.declared.xmm.Xmm.{Xmm}
-use Rattle.amd64_table.specs.declared.operand.Width.{Width}
-use Rattle.amd64_table.specs.declared.operand.Mem.{Mem}
-use Rattle.amd64_table.specs.declared.operand.Mem.TheVariants as memory
-use Rattle.amd64_table.specs.declared.operand.Rm.{Rm}
-use Rattle.amd64_table.specs.declared.operand.Rm.TheVariants as operand
+use Rattle.amd64_table.specs.declared.width.Width.{Width}
+use Rattle.amd64_table.specs.declared.memory.Mem.{Mem}
+use Rattle.amd64_table.specs.declared.memory.Mem.TheVariants as memory
+use Rattle.amd64_table.specs.declared.memory.Rm.{Rm}
+use Rattle.amd64_table.specs.declared.memory.Rm.TheVariants as operand
 use Rattle.amd64_table.specs.declared.op.Arithmetic.{Arithmetic}
 use Rattle.amd64_table.specs.declared.op.Arithmetic.TheVariants as arithmetic
 use Rattle.amd64_table.specs.declared.op.RegRm.{RegRm}

@@ -2,17 +2,17 @@
 use Rattle.std.specs.Prelude.{ℕ, ℤ, pos, Bool, false, List, [], ◌++◌, codes, Option, Some, None, if◌then◌else◌}
 use Rattle.goasm_base.specs.Numbers.{hex_text, decimal_text}
 use Rattle.machine_effect.specs.Numbers.{moved_by}
-use Rattle.amd64_table.specs.declared.code.Cc.{Cc}
+use Rattle.amd64_table.specs.declared.condition.Cc.{Cc}
 use Rattle.amd64_table.specs.declared.reg.Reg.{Reg}
 use Rattle.amd64_table.specs.declared.reg.Reg.TheVariants.{Cx}
-use Rattle.amd64_table.specs.declared.operand.Width.{Width}
-use Rattle.amd64_table.specs.declared.operand.Width.TheVariants.{Q, L}
-use Rattle.amd64_table.specs.declared.operand.Scale.{Scale}
-use Rattle.amd64_table.specs.declared.operand.Scale.TheVariants.{One, Two, Four, Eight}
-use Rattle.amd64_table.specs.declared.operand.Mem.{Mem}
-use Rattle.amd64_table.specs.declared.operand.Mem.TheVariants as memory
-use Rattle.amd64_table.specs.declared.operand.Rm.{Rm}
-use Rattle.amd64_table.specs.declared.operand.Rm.TheVariants as rms
+use Rattle.amd64_table.specs.declared.width.Width.{Width}
+use Rattle.amd64_table.specs.declared.width.Width.TheVariants.{Q, L}
+use Rattle.amd64_table.specs.declared.memory.Scale.{Scale}
+use Rattle.amd64_table.specs.declared.memory.Scale.TheVariants.{One, Two, Four, Eight}
+use Rattle.amd64_table.specs.declared.memory.Mem.{Mem}
+use Rattle.amd64_table.specs.declared.memory.Mem.TheVariants as memory
+use Rattle.amd64_table.specs.declared.memory.Rm.{Rm}
+use Rattle.amd64_table.specs.declared.memory.Rm.TheVariants as rms
 use Rattle.amd64_table.specs.declared.op.Arithmetic.{Arithmetic}
 use Rattle.amd64_table.specs.declared.op.Arithmetic.TheVariants as arithmetic
 use Rattle.amd64_table.specs.declared.op.RegRm.{RegRm}
@@ -41,14 +41,13 @@ use Rattle.amd64_table.specs.declared.op.Indirect.{Indirect}
 use Rattle.amd64_table.specs.declared.op.Indirect.TheVariants as indirect
 use Rattle.amd64_table.specs.declared.op.Plain.{Plain}
 use Rattle.amd64_table.specs.declared.op.Plain.TheVariants as plain
-use Rattle.amd64_table.specs.declared.operands.Operand.{Operand}
-use Rattle.amd64_table.specs.declared.operands.Operand.TheVariants as operand
+use Rattle.amd64_table.specs.declared.operand.Operand.{Operand}
+use Rattle.amd64_table.specs.declared.operand.Operand.TheVariants as operand
 use Rattle.amd64_table.specs.declared.instr.Instr.{Instr}
 use Rattle.amd64_table.specs.declared.instr.Instr.TheVariants as instr
 use Rattle.amd64_table.specs.Registers.{reg_text, xmm_text}
 use Rattle.amd64_table.specs.Conditions.{cc_text}
-use Rattle.amd64_table.specs.Lengths.{is_none}
-use Rattle.amd64_table.specs.Effects.{end_of}
+use Rattle.amd64_table.specs.Operands.{is_none}
 
 -- the first part of a name, which a width and a condition may follow
 unfoldable pub arithmetic_stem : Arithmetic → List ℕ
@@ -308,9 +307,9 @@ behind before end (Some shown) = before ++ operand_text end shown
 unfoldable pub name_of : Instr → List ℕ
 name_of instr = stem_of instr ++ width_text (width_of instr) ++ condition_text (cc_of instr)
 
--- the text of an instruction at `pc`
+-- the text of an instruction that ends at `end`
 unfoldable pub text_of : Instr → ℕ → List ℕ
-text_of instr pc =
+text_of instr end =
     lock_text (is_locked instr) ++ name_of instr
-    ++ behind (codes " ") (end_of instr pc) (operands_of instr).0
-    ++ behind (codes ", ") (end_of instr pc) (operands_of instr).1
+    ++ behind (codes " ") end (operands_of instr).0
+    ++ behind (codes ", ") end (operands_of instr).1

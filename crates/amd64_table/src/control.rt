@@ -3,15 +3,16 @@
 ghost use Rattle.std.specs.Prelude.{◌≡◌, ◌≤◌};
 ghost use Rattle.amd64_table.specs.Shapes as shapes;
 
-use crate::code::Cc;
+use crate::condition::Cc;
+use crate::forms::{computing, going, loading, reading, storing, swapping, widening};
+use crate::memory::{Mem, Rm};
 use crate::op::{Atomic, Indirect, Near, Plain, Stack};
-use crate::operand::{Mem, Rm, Width};
-use crate::parts::{computing, going, loading, reading, storing, swapping, widening};
 use crate::reg::Reg;
 use crate::values::{
     NOTHING, access_of, copy_of, load_of, moved_by, one_write, reg_atom, rm_atom, two_writes,
     value_of,
 };
+use crate::width::Width;
 use crate::xmm::Xmm;
 use arrayvec::ArrayVec;
 use machine_effect::{Access, Atom, Cond, Effect, FlagRule, Next, Op, Shift, Value, WideValue};

@@ -2,13 +2,14 @@
 ghost use Rattle.std.specs.Prelude.{◌≡◌};
 ghost use Rattle.amd64_table.specs.Shapes as shapes;
 
+use crate::forms::{changing, computing, reading, setting, storing, testing};
+use crate::memory::{Mem, Rm};
 use crate::op::{Arithmetic, Extend, MemReg, MulDiv, RegRm, RmReg, ShiftOp, StoreSize, Unary};
-use crate::operand::{Mem, Rm, Width};
-use crate::parts::{changing, computing, reading, setting, storing, testing};
 use crate::reg::Reg;
 use crate::values::{
     NOTHING, copy_of, load_of, moved_by, reg_atom, rm_atom, signed_atom, two_writes, value_of,
 };
+use crate::width::Width;
 use machine_effect::{Atom, Division, Effect, FlagRule, Logic, Op, Shift, Signs, Value};
 
 #[tactic(auto, unfolding(crate::specs::Shapes::result_of))]

@@ -2,13 +2,13 @@
 ghost use Rattle.std.specs.Prelude.{◌≡◌};
 ghost use Rattle.amd64_table.specs.Texts as spec;
 
-use crate::code::Cc;
+use crate::condition::Cc;
 use crate::instr::Instr;
 use crate::op::{
     Arithmetic, Atomic, Extend, Indirect, MemReg, MulDiv, Near, Plain, RegRm, RmReg, ShiftOp,
     Stack, StoreSize, Unary,
 };
-use crate::operand::Width;
+use crate::width::Width;
 
 #[tactic(auto, unfolding(crate::specs::Texts::arithmetic_stem))]
 fn arithmetic_stem(op: Arithmetic) -> &'static [u8]

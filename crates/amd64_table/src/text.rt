@@ -2,27 +2,26 @@ ghost use Rattle.std.specs.Prelude.{◌≡◌, ◌++◌, IfOk, OnOk};
 ghost use Rattle.amd64_table.specs.Texts as spec;
 ghost use Rattle.amd64_table.specs.Texts.{text_of};
 
-use crate::code::Cc;
-use crate::effects::end_of;
+use crate::condition::Cc;
 use crate::instr::Instr;
-use crate::operand::{Mem, Scale, Width};
-use crate::operands::{Operand, operands};
+use crate::memory::{Mem, Scale};
+use crate::operand::{Operand, operands};
 use crate::stems::{cc_of, is_locked, stem_of, width_of};
 use crate::values::moved_by;
+use crate::width::Width;
 use goasm_base::{Bytes, Memory, Text};
 use std::alloc::Global;
 
-/// The text of an instruction at `pc`, as Go's assembler writes it: `LOCK; ` where it is locked, the name, a space and
+/// The text of an instruction that ends at `end`, the address just behind it, as Go's assembler writes it: `LOCK; ` where it is locked, the name, a space and
 /// the operands with `, ` between.
 ///
 /// Memory is `off(R)` or `off(R)(I*s)` with a decimal offset that is left out where it's 0, and a symbol's is its
 /// address and `(SB)`. A constant is `$` and a decimal number; that of MOVL to a register has no sign. A goal is an
 /// address. Addresses are `0x` and sixteen hexadecimal digits. `Memory` comes only for want of memory.
 #[tactic(auto, unfolding(crate::specs::Texts::text_of))]
-pub fn show(alloc: Global, instr: &Instr, pc: u64) -> Result<Bytes, Memory>
-    ensures { IfOk result (λ text. text ≡ text_of instr.now pc) }
+pub fn show(alloc: Global, instr: &Instr, end: u64) -> Result<Bytes, Memory>
+    ensures { IfOk result (λ text. text ≡ text_of instr.now end) }
 {
-    let end = end_of(instr, pc);
     let (first, second) = operands(*instr);
     let mut text = Text::new(alloc);
     text.push(lock_text(is_locked(*instr)))?;

@@ -4,7 +4,7 @@ ghost use Rattle.machine_effect.specs.Numbers.{moved_by};
 ghost use Rattle.amd64_table.specs.Operands as operands;
 ghost use Rattle.amd64_table.specs.Shapes as shapes;
 
-use crate::operand::{Mem, Rm};
+use crate::memory::{Mem, Rm};
 use crate::reg::Reg;
 use arrayvec::ArrayVec;
 use machine_effect::{Access, Atom, Op, Value};

@@ -56,10 +56,10 @@ pub record IsBoundedAccess (access : Access) : Type 0 where
   pub scale : IsScale access.scale
 
 -- two atoms that are compared or combined at a width
-pub record IsBoundedPair (a b : Atom) (width : ℕ) : Type 0 where
+pub record IsBoundedPair (a b : Atom) (bits : ℕ) : Type 0 where
   pub first : IsBoundedAtom a
   pub second : IsBoundedAtom b
-  pub width : IsWidth width
+  pub width : IsWidth bits
 
 abbrev pub IsBoundedCond : Cond → Type 0
 IsBoundedCond (cond.Equal a b width) = IsBoundedPair a b width

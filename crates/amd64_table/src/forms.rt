@@ -2,9 +2,10 @@
 ghost use Rattle.std.specs.Prelude.{◌≡◌};
 ghost use Rattle.amd64_table.specs.Shapes as shapes;
 
-use crate::operand::{Mem, Rm, Width};
+use crate::memory::{Mem, Rm};
 use crate::reg::Reg;
 use crate::values::{Writes, access_of, load_of, one_write, store_of, writes_of};
+use crate::width::Width;
 use arrayvec::ArrayVec;
 use machine_effect::{Access, Effect, FlagRule, Next, Value, WideValue};
 

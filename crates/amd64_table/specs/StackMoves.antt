@@ -1,14 +1,13 @@
 -- What each instruction does to the stack pointer, as its effect's form tells.
-use Rattle.std.specs.Prelude.{◌≡◌, ℤ, pos, negsuc, ◌-◌, ◌^◌, ◌-ℤ◌, ◌≤ℤ◌, None}
-use Rattle.machine_effect.specs.declared.flow.Shape.{Shape}
+use Rattle.std.specs.Prelude.{ℤ, pos, negsuc, ◌-ℤ◌}
 use Rattle.machine_effect.specs.declared.flow.SpMove.{SpMove}
 use Rattle.machine_effect.specs.declared.flow.SpMove.TheVariants.{Keep, By, Other}
 use Rattle.amd64_table.specs.declared.reg.Reg.{Reg}
 use Rattle.amd64_table.specs.declared.reg.Reg.TheVariants.{Sp}
-use Rattle.amd64_table.specs.declared.operand.Width.{Width}
-use Rattle.amd64_table.specs.declared.operand.Width.TheVariants.{Q}
-use Rattle.amd64_table.specs.declared.operand.Rm.{Rm}
-use Rattle.amd64_table.specs.declared.operand.Rm.TheVariants as operand
+use Rattle.amd64_table.specs.declared.width.Width.{Width}
+use Rattle.amd64_table.specs.declared.width.Width.TheVariants.{Q}
+use Rattle.amd64_table.specs.declared.memory.Rm.{Rm}
+use Rattle.amd64_table.specs.declared.memory.Rm.TheVariants as operand
 use Rattle.amd64_table.specs.declared.op.Arithmetic.{Arithmetic}
 use Rattle.amd64_table.specs.declared.op.Arithmetic.TheVariants as arithmetic
 use Rattle.amd64_table.specs.declared.op.RegRm.{RegRm}
@@ -21,10 +20,6 @@ use Rattle.amd64_table.specs.declared.op.Atomic.{Atomic}
 use Rattle.amd64_table.specs.declared.op.Atomic.TheVariants as atomic
 use Rattle.amd64_table.specs.declared.instr.Instr.{Instr}
 use Rattle.amd64_table.specs.declared.instr.Instr.TheVariants as instr
-
--- the stack pointer is register 4, and there's no link register
-abbrev pub amd64_shape : Shape
-amd64_shape = record { sp = 4; link = None }
 
 -- a register is written in a way that moves no stack
 abbrev pub written : Reg → SpMove
@@ -90,7 +85,3 @@ move_of (instr.MoveCc code width from to) = written to
 move_of (instr.SwapBytes width reg) = written reg
 move_of (instr.LoadTls to) = written to
 move_of _ = Keep
-
--- a move of the stack pointer lies between -2^31 and 2^31
-abbrev pub IsNear : SpMove → Type 0
-IsNear move = (k : ℤ) → move ≡ By k → (negsuc (2 ^ 31 - 1) ≤ℤ k) × (k ≤ℤ pos (2 ^ 31))

@@ -1,6 +1,6 @@
 ghost use Rattle.std.specs.Prelude.{◌≡◌, ◌<◌};
 ghost use Rattle.amd64_table.specs.Conditions.{cc_number, cc_text, cond_of};
-ghost use Rattle.amd64_table.specs.declared.code.Cc.{Cc};
+ghost use Rattle.amd64_table.specs.declared.condition.Cc.{Cc};
 
 use machine_effect::Cond;
 
