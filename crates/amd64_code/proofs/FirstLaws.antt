@@ -9,7 +9,7 @@ use Rattle.amd64_code.specs.Spelling.{spelling_of}
 use Rattle.amd64_code.specs.Reading.{reading}
 use Rattle.amd64_code.specs.InstructionSet.{amd64, Fits}
 use Rattle.amd64_code.specs.First.{starts_with, if_spelled, first_in}
-use Rattle.amd64_code.specs.Laws.{begins_read}
+use Rattle.amd64_code.proofs.Laws.{begins_read}
 
 starts_true : (front bytes : List ℕ) → starts_with front bytes ≡ true → bytes ≡ front ++ drop (length front) bytes
 starts_true [] bytes is = refl

@@ -9,15 +9,16 @@ use Rattle.amd64_table.specs.Operands.{bits_of}
 use Rattle.amd64_table.specs.Fits.{fits, fits_lock, fits_mem, fits_rm, is_quad_constant}
 use Rattle.amd64_code.specs.Spelling.{spelling_of}
 use Rattle.amd64_code.specs.Reading.{reading}
-use Rattle.amd64_code.specs.OneByteLaws.{reg_rm_back, arithmetic_reg_back, mem_reg_op_back, arithmetic_const_back, compare_const_back, store_low_back, load_long_back, load_quad_back, store_const_back, store_byte_back, lea_back, unary_back, mul_div_back, shift_const_back, shift_cx_back, stack_back, exchange_back, short_back, indirect_back, load_tls_back}
-use Rattle.amd64_code.specs.TwoByteLaws.{extend_back, rm_reg_back, atomic_back, set_cc_back, move_cc_back, swap_bytes_back, near_back, load_wide_back, store_wide_back, xor_wide_back, plain_back}
+use Rattle.amd64_code.proofs.MoveLaws.{reg_rm_back, mem_reg_back, store_low_back, extend_back, load_long_back, load_quad_back, store_const_back, store_byte_back, lea_back, move_cc_back, load_wide_back, store_wide_back, load_tls_back}
+use Rattle.amd64_code.proofs.ComputationLaws.{arithmetic_reg_back, arithmetic_const_back, compare_const_back, unary_back, mul_div_back, rm_reg_back, shift_const_back, shift_cx_back, exchange_back, atomic_back, set_cc_back, swap_bytes_back, xor_wide_back}
+use Rattle.amd64_code.proofs.ControlLaws.{stack_back, short_back, near_back, indirect_back, plain_back}
 
 pub reads : (i : Instr) (rest : List ℕ) → fits i ≡ true → reading (spelling_of i ++ rest) ≡ i
 unfolding fits
 reads (instr.RegRm op width reg rm) rest fit = reg_rm_back op width reg rm rest fit
 reads (instr.ArithmeticReg op lock width from to) rest fit =
     arithmetic_reg_back op lock width from to rest (and_parts (fits_lock lock to) (fits_rm to) fit).1
-reads (instr.MemReg op width mem reg) rest fit = mem_reg_op_back op width mem reg rest fit
+reads (instr.MemReg op width mem reg) rest fit = mem_reg_back op width mem reg rest fit
 reads (instr.ArithmeticConst op lock width constant to) rest fit =
     let parts = and_parts (fits_lock lock to && fits_rm to) (fits_bits 32 constant) fit in
     arithmetic_const_back op lock width constant to rest (and_parts (fits_lock lock to) (fits_rm to) parts.0).1 parts.1

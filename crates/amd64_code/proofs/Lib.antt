@@ -3,8 +3,9 @@ pub mod ConstantLaws
 pub mod HeadLaws
 pub mod ModRmLaws
 pub mod PartLaws
-pub mod OneByteLaws
-pub mod TwoByteLaws
+pub mod MoveLaws
+pub mod ComputationLaws
+pub mod ControlLaws
 pub mod Laws
 pub mod LengthLaws
 pub mod PaddingLaws

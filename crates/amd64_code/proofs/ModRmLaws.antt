@@ -1,25 +1,28 @@
--- The bytes of a register or a place in memory give it back, whatever follows.
-use Rattle.std.specs.Prelude.{◌==◌, ◌&&◌, not, slice_index, pos, negsuc, if◌then◌else◌}
-use Rattle.std.proofs.Common.{◌≡◌, ℕ, ℤ, Bool, true, false, List, [], ◌∷◌, ◌++◌, ◌/◌, ◌%◌, ◌<◌, refl, sym, ap, ◌∙◌, arith}
+-- The bytes of a register or a place in memory give it back, whatever follows, and how many they are.
+use Rattle.std.specs.Prelude.{◌==◌, ◌&&◌, not, drop, slice_index, pos, negsuc, if◌then◌else◌}
+use Rattle.std.proofs.Common.{◌≡◌, ℕ, ℤ, Bool, true, false, List, [], ◌∷◌, ◌++◌, ◌+◌, ◌/◌, ◌%◌, ◌<◌, ◌≤◌, length, refl, sym, ap, ◌∙◌, arith}
 use Rattle.std.proofs.lemmas.Bool.{eqb-true, ne_eqb, and_parts, and_right}
+use Rattle.std.proofs.lemmas.List.{length-append}
+use Rattle.std.proofs.Math.Seq.{drop-append_seam}
 use Rattle.machine_effect.specs.Numbers.{fits as fits_bits}
 use Rattle.amd64_table.specs.declared.reg.Reg.{Reg}
-use Rattle.amd64_table.specs.declared.reg.Reg.TheVariants.{Ax, Cx, Dx, Bx, Sp, Bp, Si, Di, R8, R9, R10, R11, R12, R13, R14, R15}
-use Rattle.amd64_table.specs.declared.operand.Scale.{Scale}
-use Rattle.amd64_table.specs.declared.operand.Scale.TheVariants as scales
-use Rattle.amd64_table.specs.declared.operand.Mem.{Mem}
-use Rattle.amd64_table.specs.declared.operand.Mem.TheVariants as memory
-use Rattle.amd64_table.specs.declared.operand.Rm.{Rm}
-use Rattle.amd64_table.specs.declared.operand.Rm.TheVariants as operand
+use Rattle.amd64_table.specs.declared.reg.Reg.TheVariants.{Sp}
+use Rattle.amd64_table.specs.declared.memory.Scale.{Scale}
+use Rattle.amd64_table.specs.declared.memory.Scale.TheVariants as scales
+use Rattle.amd64_table.specs.declared.memory.Mem.{Mem}
+use Rattle.amd64_table.specs.declared.memory.Mem.TheVariants as memory
+use Rattle.amd64_table.specs.declared.memory.Rm.{Rm}
+use Rattle.amd64_table.specs.declared.memory.Rm.TheVariants as operand
 use Rattle.amd64_table.specs.Registers.{low_bits, is_high, number_of}
 use Rattle.amd64_table.specs.Fits.{fits_mem, fits_rm, is_index}
-use Rattle.amd64_table.specs.Lengths.{is_none}
-use Rattle.amd64_code.specs.Constants.{long_of}
+use Rattle.amd64_table.specs.Operands.{is_none}
+use Rattle.amd64_code.specs.Constants.{byte_of, long_of}
+use Rattle.amd64_code.specs.Heads.{one_if}
 use Rattle.amd64_code.specs.Registers.{reg_at}
-use Rattle.amd64_code.specs.Places.{fields, mode_of, disp_bytes, disp_in, scale_bits, scale_at, sib_in, mem_bytes, mem_in, rm_bytes, rm_in, field_in}
-use Rattle.amd64_code.specs.Spelling.{mem_x, mem_b, rm_x, rm_b}
-use Rattle.amd64_code.specs.RegisterLaws.{reg_back, low_below}
-use Rattle.amd64_code.specs.ConstantLaws.{byte_back, long_back}
+use Rattle.amd64_code.specs.ModRm.{fields, mode_of, disp_bytes, disp_in, scale_bits, scale_at, sib_in, bare_sib, mem_bytes, mem_in, rm_bytes, rm_in, field_in, disp_size, operand_size}
+use Rattle.amd64_code.specs.Spelling.{rm_x, rm_b}
+use Rattle.amd64_code.proofs.RegisterLaws.{reg_back, low_below}
+use Rattle.amd64_code.proofs.ConstantLaws.{byte_back, long_back}
 
 -- the three fields of a byte
 
@@ -117,22 +120,8 @@ scale_below scales.Eight = omega arith
 -- an index isn't read as none: SP is none
 index_apart : (index : Reg) → is_index index ≡ true → (low_bits index == 4 && not (is_high index)) ≡ false
 unfolding number_of
-index_apart Ax fit = refl
-index_apart Cx fit = refl
-index_apart Dx fit = refl
-index_apart Bx fit = refl
 index_apart Sp fit = sym fit
-index_apart Bp fit = refl
-index_apart Si fit = refl
-index_apart Di fit = refl
-index_apart R8 fit = refl
-index_apart R9 fit = refl
-index_apart R10 fit = refl
-index_apart R11 fit = refl
-index_apart R12 fit = refl
-index_apart R13 fit = refl
-index_apart R14 fit = refl
-index_apart R15 fit = refl
+index_apart _ fit = refl
 
 indexed_back : (m f s i l : ℕ) (x b : Bool) (base index : Reg) (scale : Scale) (disp : ℤ) (rest : List ℕ)
     → f < 8 → i < 8 → l < 8 → s < 4
@@ -158,9 +147,9 @@ symbol_back f distance rest field fit =
     let low : fields 0 f 5 % 8 ≡ 5 = omega arith in
     rw (top, low) (ap memory.Symbol (long_back distance rest fit))
 
-pub mem_back : (field : ℕ) (mem : Mem) (rest : List ℕ) → field < 8 → fits_mem mem ≡ true
-    → mem_in (mem_x mem) (mem_b mem) (mem_bytes field mem ++ rest) ≡ mem
-unfolding mem_bytes mem_x mem_b fits_mem
+mem_back : (field : ℕ) (mem : Mem) (rest : List ℕ) → field < 8 → fits_mem mem ≡ true
+    → mem_in (rm_x (operand.Mem mem)) (rm_b (operand.Mem mem)) (mem_bytes field mem ++ rest) ≡ mem
+unfolding mem_bytes rm_x rm_b fits_mem
 mem_back field (memory.Base base disp) rest small fit =
     base_cases (low_bits base == 4) (mode_of base disp) field (low_bits base) (is_high base) base disp rest small
     (record { low = low_below base; reg = reg_back base; back = disp_back base disp rest fit; apart = not_symbol base disp }) refl
@@ -171,14 +160,8 @@ mem_back field (memory.Indexed base index scale disp) rest small fit =
     (reg_back index) (scale_back scale) (disp_back base disp rest parts.1) (index_apart index parts.0)
 mem_back field (memory.Symbol distance) rest small fit = symbol_back field distance rest small fit
 
-mem_field : (field : ℕ) (mem : Mem) (rest : List ℕ) → field < 8 → field_in (mem_bytes field mem ++ rest) ≡ field
-unfolding mem_bytes
-mem_field field (memory.Base base disp) rest small = middle_back (mode_of base disp) field (low_bits base) small (low_below base)
-mem_field field (memory.Indexed base index scale disp) rest small = middle_back (mode_of base disp) field 4 small (omega arith)
-mem_field field (memory.Symbol distance) rest small = middle_back 0 field 5 small (omega arith)
-
 -- a place in memory isn't read as a register
-pub mem_apart : (field : ℕ) (mem : Mem) (rest : List ℕ) → field < 8
+mem_apart : (field : ℕ) (mem : Mem) (rest : List ℕ) → field < 8
     → (slice_index (mem_bytes field mem ++ rest) 0 / 64 == 3) ≡ false
 unfolding mem_bytes
 mem_apart field (memory.Base base disp) rest small =
@@ -195,6 +178,15 @@ mem_apart field (memory.Symbol distance) rest small =
     let top : fields 0 field 5 / 64 ≡ 0 = high_back 0 field 5 small (omega arith) in
     rw top refl
 
+pub field_back : (field : ℕ) (rm : Rm) (rest : List ℕ) → field < 8 → field_in (rm_bytes field rm ++ rest) ≡ field
+unfolding rm_bytes mem_bytes
+field_back field (operand.Reg reg) rest small = middle_back 3 field (low_bits reg) small (low_below reg)
+field_back field (operand.Mem (memory.Base base disp)) rest small =
+    middle_back (mode_of base disp) field (low_bits base) small (low_below base)
+field_back field (operand.Mem (memory.Indexed base index scale disp)) rest small =
+    middle_back (mode_of base disp) field 4 small (omega arith)
+field_back field (operand.Mem (memory.Symbol distance)) rest small = middle_back 0 field 5 small (omega arith)
+
 pub rm_back : (field : ℕ) (rm : Rm) (rest : List ℕ) → field < 8 → fits_rm rm ≡ true
     → rm_in (rm_x rm) (rm_b rm) (rm_bytes field rm ++ rest) ≡ rm
 unfolding rm_bytes rm_x rm_b rm_in fits_rm
@@ -205,10 +197,84 @@ rm_back field (operand.Reg reg) rest small fit =
 rm_back field (operand.Mem mem) rest small fit =
     rw (mem_apart field mem rest small) (ap operand.Mem (mem_back field mem rest small fit))
 
-pub field_back : (field : ℕ) (rm : Rm) (rest : List ℕ) → field < 8 → field_in (rm_bytes field rm ++ rest) ≡ field
-unfolding rm_bytes
-field_back field (operand.Reg reg) rest small = middle_back 3 field (low_bits reg) small (low_below reg)
-field_back field (operand.Mem mem) rest small = mem_field field mem rest small
+-- how many bytes there are, and how many are read
 
-pub mem_field_back : (field : ℕ) (mem : Mem) (rest : List ℕ) → field < 8 → field_in (mem_bytes field mem ++ rest) ≡ field
-mem_field_back field mem rest small = mem_field field mem rest small
+pub if_length : (test : Bool) (byte : ℕ) → length (if test then byte ∷ [] else []) ≡ one_if test
+if_length true byte = refl
+if_length false byte = refl
+
+disp_length : (mode : ℕ) (disp : ℤ) → length (disp_bytes mode disp) ≡ disp_size mode
+unfolding disp_bytes
+disp_length mode disp = by (mode == 0) (mode == 1)
+  where
+    by : (none one : Bool)
+        → length (if none then [] else (if one then byte_of disp else long_of disp)) ≡ (if none then 0 else (if one then 1 else 4))
+    by true one = refl
+    by false true = refl
+    by false false = refl
+
+base_length : (base : Reg) (mode : ℕ) (disp : ℤ)
+    → length (bare_sib base ++ disp_bytes mode disp) ≡ one_if (low_bits base == 4) + disp_size mode
+base_length base mode disp = omega (
+  arith,
+  length-append (bare_sib base) (disp_bytes mode disp),
+  if_length (low_bits base == 4) 0x24,
+  disp_length mode disp,
+)
+
+first_size : (m f l : ℕ) (tail : List ℕ) → f < 8 → l < 8 → operand_size (fields m f l ∷ tail)
+    ≡ (if m == 3 then 1 else (if m == 0 && l == 5 then 5 else 1 + one_if (l == 4) + disp_size m))
+unfolding operand_size
+first_size m f l tail field low = rw (high_back m f l field low, low_back m f l field low) refl
+
+base_size : (m f l : ℕ) (tail : List ℕ) → f < 8 → l < 8 → m < 3 → (m == 0 && l == 5) ≡ false
+    → operand_size (fields m f l ∷ tail) ≡ 1 + one_if (l == 4) + disp_size m
+base_size m f l tail field low below apart =
+    let memory : (m == 3) ≡ false = ne_eqb m 3 (omega arith) in first_size m f l tail field low ∙ rw (memory, apart) refl
+
+rm_size : (field : ℕ) (rm : Rm) (rest : List ℕ) → field < 8
+    → operand_size (rm_bytes field rm ++ rest) ≡ length (rm_bytes field rm)
+unfolding rm_bytes mem_bytes
+rm_size field (operand.Reg reg) rest small = first_size 3 field (low_bits reg) rest small (low_below reg)
+rm_size field (operand.Mem (memory.Base base disp)) rest small =
+    let tail : List ℕ = (bare_sib base ++ disp_bytes (mode_of base disp) disp) ++ rest in omega (
+      arith,
+      base_size (mode_of base disp) field (low_bits base) tail small (low_below base) (mode_below base disp) (not_symbol base disp),
+      base_length base (mode_of base disp) disp,
+    )
+rm_size field (operand.Mem (memory.Indexed base index scale disp)) rest small =
+    let sib : ℕ = fields (scale_bits scale) (low_bits index) (low_bits base) in
+    let tail : List ℕ = sib ∷ (disp_bytes (mode_of base disp) disp ++ rest) in omega (
+      arith,
+      base_size (mode_of base disp) field 4 tail small (omega arith) (mode_below base disp) (and_right (mode_of base disp == 0) false refl),
+      disp_length (mode_of base disp) disp,
+    )
+rm_size field (operand.Mem (memory.Symbol distance)) rest small =
+    first_size 0 field 5 (long_of distance ++ rest) small (omega arith)
+
+-- what follows an operand is read behind it
+pub behind_rm : (field : ℕ) (rm : Rm) (rest : List ℕ) → field < 8
+    → drop (operand_size (rm_bytes field rm ++ rest)) (rm_bytes field rm ++ rest) ≡ rest
+behind_rm field rm rest small =
+    ap (λ n. drop n (rm_bytes field rm ++ rest)) (rm_size field rm rest small) ∙ drop-append_seam (rm_bytes field rm) rest
+
+disp_most : (mode : ℕ) → disp_size mode ≤ 4
+disp_most mode = by (mode == 0) (mode == 1)
+  where
+    by : (none one : Bool) → (if none then 0 else (if one then 1 else 4)) ≤ 4
+    by true one = omega arith
+    by false true = omega arith
+    by false false = omega arith
+
+pub one_most : (test : Bool) → one_if test ≤ 1
+one_most true = omega arith
+one_most false = omega arith
+
+pub rm_most : (field : ℕ) (rm : Rm) → length (rm_bytes field rm) ≤ 6
+unfolding rm_bytes mem_bytes
+rm_most field (operand.Reg reg) = omega arith
+rm_most field (operand.Mem (memory.Base base disp)) =
+    omega (arith, base_length base (mode_of base disp) disp, one_most (low_bits base == 4), disp_most (mode_of base disp))
+rm_most field (operand.Mem (memory.Indexed base index scale disp)) =
+    omega (arith, disp_length (mode_of base disp) disp, disp_most (mode_of base disp))
+rm_most field (operand.Mem (memory.Symbol distance)) = omega arith

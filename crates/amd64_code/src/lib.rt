@@ -11,11 +11,10 @@ mod control;
 mod decode;
 mod fields;
 mod head;
+mod modrm;
 mod moves;
 mod one_byte;
 mod opcodes;
-mod parts;
-mod place;
 mod prefixes;
 mod reader;
 mod registers;
@@ -24,9 +23,4 @@ mod spelling;
 mod two_bytes;
 
 pub use reader::read;
-pub use spelling::spell;
-
-#[cfg(test)]
-mod shape_tests;
-#[cfg(test)]
-mod tests;
+pub use spelling::{end_of, spell};

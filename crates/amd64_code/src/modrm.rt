@@ -1,7 +1,7 @@
 //! ModRM, SIB and displacement of an operand, written and read.
 ghost use Rattle.std.specs.Prelude.{◌≡◌, ◌<◌, ◌≤◌, ◌+◌, ◌++◌, ◌∷◌, [], length};
 ghost use Rattle.arrayvec.specs.ArrayVec.{array_vec_len};
-ghost use Rattle.amd64_code.specs.Places as spec;
+ghost use Rattle.amd64_code.specs.ModRm as spec;
 
 use crate::constants::{behind, byte_at, byte_in, is_byte, long_in, push_byte, push_long};
 use crate::registers::reg_at;
@@ -24,9 +24,8 @@ pub fn low_in(bytes: &[u8]) -> u8
     byte_at(bytes, 0) % 8
 }
 
-/// A displacement, by ModRM's field mod.
-#[tactic(auto, unfolding(crate::specs::Places::disp_in))]
-pub fn disp_in(mode: u8, bytes: &[u8]) -> i32
+#[tactic(auto, unfolding(crate::specs::ModRm::disp_in))]
+fn disp_in(mode: u8, bytes: &[u8]) -> i32
     ensures { result ≡ spec.disp_in mode bytes.now }
 {
     match mode {
@@ -36,9 +35,8 @@ pub fn disp_in(mode: u8, bytes: &[u8]) -> i32
     }
 }
 
-/// The scale of SIB, by its two bits.
-#[tactic(auto, unfolding(crate::specs::Places::scale_at))]
-pub fn scale_at(bits: u8) -> Scale
+#[tactic(auto, unfolding(crate::specs::ModRm::scale_at))]
+fn scale_at(bits: u8) -> Scale
     ensures { result ≡ spec.scale_at bits }
 {
     match bits {
@@ -49,9 +47,8 @@ pub fn scale_at(bits: u8) -> Scale
     }
 }
 
-/// A place whose SIB the bytes begin with, by REX's bits x and b and ModRM's field mod.
-#[tactic(auto, unfolding(crate::specs::Places::sib_in))]
-pub fn sib_in(x: bool, b: bool, mode: u8, bytes: &[u8]) -> Mem
+#[tactic(auto, unfolding(crate::specs::ModRm::sib_in))]
+fn sib_in(x: bool, b: bool, mode: u8, bytes: &[u8]) -> Mem
     ensures { result ≡ spec.sib_in x b mode bytes.now }
 {
     let base = reg_at(b, low_in(bytes));
@@ -69,9 +66,8 @@ pub fn sib_in(x: bool, b: bool, mode: u8, bytes: &[u8]) -> Mem
     }
 }
 
-/// A place in memory whose ModRM the bytes begin with, by REX's bits x and b.
-#[tactic(auto, unfolding(crate::specs::Places::mem_in))]
-pub fn mem_in(x: bool, b: bool, bytes: &[u8]) -> Mem
+#[tactic(auto, unfolding(crate::specs::ModRm::mem_in))]
+fn mem_in(x: bool, b: bool, bytes: &[u8]) -> Mem
     ensures { result ≡ spec.mem_in x b bytes.now }
 {
     let mode = byte_at(bytes, 0) / 64;
@@ -92,7 +88,7 @@ pub fn mem_in(x: bool, b: bool, bytes: &[u8]) -> Mem
 }
 
 /// A register or a place in memory whose ModRM the bytes begin with, by REX's bits x and b.
-#[tactic(auto, unfolding(crate::specs::Places::rm_in))]
+#[tactic(auto, unfolding(crate::specs::ModRm::rm_in))]
 pub fn rm_in(x: bool, b: bool, bytes: &[u8]) -> Rm
     ensures { result ≡ spec.rm_in x b bytes.now }
 {
@@ -104,9 +100,9 @@ pub fn rm_in(x: bool, b: bool, bytes: &[u8]) -> Rm
 }
 
 /// How many bytes ModRM, SIB and displacement are.
-#[tactic(auto, unfolding(crate::specs::Places::place_size))]
-pub fn place_size(bytes: &[u8]) -> usize
-    ensures { result ≡ spec.place_size bytes.now }
+#[tactic(auto, unfolding(crate::specs::ModRm::operand_size))]
+pub fn operand_size(bytes: &[u8]) -> usize
+    ensures { result ≡ spec.operand_size bytes.now }
 {
     let mode = byte_at(bytes, 0) / 64;
     let low = low_in(bytes);
@@ -141,7 +137,7 @@ pub fn fields(high: u8, middle: u8, low: u8) -> u8
 }
 
 // ModRM's field mod for a displacement: 0 where it is left out, 1 for one byte, 2 for four.
-#[tactic(auto, unfolding(crate::specs::Places::mode_of))]
+#[tactic(auto, unfolding(crate::specs::ModRm::mode_of))]
 fn mode_of(base: Reg, disp: i32) -> u8
     ensures mode { result ≡ spec.mode_of base disp }
     ensures below { result < 3 }
@@ -155,7 +151,7 @@ fn mode_of(base: Reg, disp: i32) -> u8
     }
 }
 
-#[tactic(auto, unfolding(crate::specs::Places::mode_of, crate::specs::Places::disp_bytes))]
+#[tactic(auto, unfolding(crate::specs::ModRm::mode_of, crate::specs::ModRm::disp_bytes))]
 fn push_disp(out: &mut Spelled, base: Reg, disp: i32)
     requires { array_vec_len out.old ≤ 11 }
     ensures bytes { out.new.items ≡ out.old.items ++ spec.disp_bytes (spec.mode_of base disp) disp }
@@ -192,9 +188,9 @@ fn push_bare_sib(out: &mut Spelled, base: Reg)
     }
 }
 
-/// Appends ModRM, SIB and displacement of a place in memory. `field` is what ModRM's field reg has.
-#[tactic(auto, unfolding(crate::specs::Places::mem_bytes))]
-pub fn push_mem(out: &mut Spelled, field: u8, mem: Mem)
+// `field` is what ModRM's field reg has.
+#[tactic(auto, unfolding(crate::specs::ModRm::mem_bytes))]
+fn push_mem(out: &mut Spelled, field: u8, mem: Mem)
     requires room { array_vec_len out.old ≤ 9 }
     requires field { field < 8 }
     ensures bytes { out.new.items ≡ out.old.items ++ spec.mem_bytes field mem }
@@ -223,8 +219,8 @@ pub fn push_mem(out: &mut Spelled, field: u8, mem: Mem)
     }
 }
 
-/// Appends ModRM, SIB and displacement of a register or a place in memory.
-#[tactic(auto, unfolding(crate::specs::Places::rm_bytes))]
+/// Appends ModRM, SIB and displacement of a register or a place in memory. `field` is what ModRM's field reg has.
+#[tactic(auto, unfolding(crate::specs::ModRm::rm_bytes))]
 pub fn push_rm(out: &mut Spelled, field: u8, rm: Rm)
     requires room { array_vec_len out.old ≤ 9 }
     requires field { field < 8 }
