@@ -4,5 +4,6 @@ pub mod Operands
 pub mod Fits
 pub mod Shapes
 pub mod Effects
+pub mod Mnemonics
 pub mod Texts
 pub mod StackMoves

@@ -21,6 +21,7 @@ mod forms;
 mod instr;
 mod listed;
 mod memory;
+mod mnemonic;
 mod op;
 mod operand;
 mod reg;
@@ -39,6 +40,8 @@ pub use op::{
     Arithmetic, Atomic, Extend, Indirect, MemReg, MulDiv, Near, Plain, RegRm, RmReg, ShiftOp,
     Stack, StoreSize, Unary,
 };
+pub use mnemonic::{Mnemonic, mnemonic_of};
+pub use operand::{Operand, is_locked, operands_of};
 pub use reg::Reg;
 pub use text::show;
 pub use width::Width;
