@@ -93,10 +93,19 @@ pub fn mnemonic_of(instr: &Instr) -> Mnemonic
         Instr::MoveCc { code, width, .. } => Mnemonic::MoveCc(width, code),
         Instr::SwapBytes { width, .. } => Mnemonic::SwapBytes(width),
         Instr::Short { code: None, .. } => Mnemonic::Jump,
-        Instr::Short { code: Some(code), .. } => Mnemonic::JumpIf(code),
+        Instr::Short {
+            code: Some(code),
+            ..
+        } => Mnemonic::JumpIf(code),
         Instr::Near { op, .. } => near_mnemonic(op),
-        Instr::Indirect { op: Indirect::Jmp, .. } => Mnemonic::Jump,
-        Instr::Indirect { op: Indirect::Call, .. } => Mnemonic::Call,
+        Instr::Indirect {
+            op: Indirect::Jmp,
+            ..
+        } => Mnemonic::Jump,
+        Instr::Indirect {
+            op: Indirect::Call,
+            ..
+        } => Mnemonic::Call,
         Instr::LoadWide { .. } | Instr::StoreWide { .. } => Mnemonic::MoveWide,
         Instr::XorWide { .. } => Mnemonic::XorWide,
         Instr::Plain { op } => Mnemonic::Plain(op),
