@@ -53,7 +53,10 @@ use Rattle.amd64_table.specs.declared.instr.Instr.TheVariants as instr
 use Rattle.amd64_table.specs.Registers.{number_of}
 use Rattle.amd64_table.specs.Fits.{fits, fits_lock, fits_rm}
 use Rattle.amd64_table.specs.Operands.{bits_of, bytes_of, rm_atom, load_of, writes_of, store_of, access_of, reg_atom, signed_atom}
-use Rattle.amd64_table.specs.Shapes.{copy_of, tls_word, computing, changing, setting, testing, reading, loading, storing, swapping, result_of, flags_of, reg_rm_effect, arithmetic_effect, mem_reg_effect, compare_const_effect, store_low_effect, extend_bytes, extended, extend_effect, store_const_effect, unary_value, unary_flags, unary_effect, mul_div_effect, rm_reg_value, rm_reg_effect, shift_effect, stack_effect, exchange_effect, compare_exchange, exchange_add, atomic_effect, set_cc_effect, move_cc_effect, swap_bytes_effect, short_effect, near_effect, indirect_effect, load_wide_effect, store_wide_effect, xor_wide_effect, load_tls_effect, plain_effect}
+use Rattle.amd64_table.specs.Forms.{copy_of, computing, changing, setting, testing, reading, loading, storing, swapping}
+use Rattle.amd64_table.specs.Moves.{tls_word, reg_rm_effect, mem_reg_effect, store_low_effect, extend_bytes, extended, extend_effect, store_const_effect, move_cc_effect, load_wide_effect, store_wide_effect, load_tls_effect}
+use Rattle.amd64_table.specs.Computation.{result_of, flags_of, arithmetic_effect, compare_const_effect, unary_value, unary_flags, unary_effect, mul_div_effect, rm_reg_value, rm_reg_effect, shift_effect, exchange_effect, compare_exchange, exchange_add, atomic_effect, set_cc_effect, swap_bytes_effect, xor_wide_effect}
+use Rattle.amd64_table.specs.Control.{stack_effect, short_effect, near_effect, indirect_effect, plain_effect}
 use Rattle.amd64_table.specs.Effects.{effect_at}
 use Rattle.amd64_table.specs.StackMoves.{written, written_rm, moved, moved_reg, moved_rm, reg_rm_move, mem_reg_move, stack_move, atomic_move, move_of}
 

@@ -7,7 +7,10 @@ use Rattle.amd64_table.specs.declared.reg.Reg.TheVariants.{Cx}
 use Rattle.amd64_table.specs.declared.instr.Instr.{Instr}
 use Rattle.amd64_table.specs.declared.instr.Instr.TheVariants as instr
 use Rattle.amd64_table.specs.Operands.{reg_atom, signed_atom}
-use Rattle.amd64_table.specs.Shapes.{copy_of, loading, storing, reg_rm_effect, arithmetic_effect, mem_reg_effect, compare_const_effect, store_low_effect, extend_effect, store_const_effect, place_of, unary_effect, mul_div_effect, rm_reg_effect, shift_effect, stack_effect, exchange_effect, atomic_effect, set_cc_effect, move_cc_effect, swap_bytes_effect, short_effect, near_effect, indirect_effect, load_wide_effect, store_wide_effect, xor_wide_effect, load_tls_effect, plain_effect}
+use Rattle.amd64_table.specs.Forms.{copy_of, loading, storing}
+use Rattle.amd64_table.specs.Moves.{reg_rm_effect, mem_reg_effect, store_low_effect, extend_effect, store_const_effect, place_of, move_cc_effect, load_wide_effect, store_wide_effect, load_tls_effect}
+use Rattle.amd64_table.specs.Computation.{arithmetic_effect, compare_const_effect, unary_effect, mul_div_effect, rm_reg_effect, shift_effect, exchange_effect, atomic_effect, set_cc_effect, swap_bytes_effect, xor_wide_effect}
+use Rattle.amd64_table.specs.Control.{stack_effect, short_effect, near_effect, indirect_effect, plain_effect}
 
 -- what an instruction does that ends at `end`, the address just behind it
 unfoldable pub effect_at : Instr → ℕ → Effect

@@ -2,7 +2,11 @@ pub mod Registers
 pub mod Conditions
 pub mod Operands
 pub mod Fits
-pub mod Shapes
+pub mod Forms
+pub mod Computation
+pub mod Moves
+pub mod Control
 pub mod Effects
+pub mod Mnemonics
 pub mod Texts
 pub mod StackMoves

@@ -6,18 +6,17 @@ ghost use Rattle.amd64_table.specs.Effects as effects;
 ghost use Rattle.amd64_table.specs.Fits.{fits};
 ghost use Rattle.amd64_table.specs.StackMoves.{move_of};
 
-use crate::control::{
-    atomic_effect, exchange_effect, indirect_effect, load_tls_effect, load_wide_effect,
-    move_cc_effect, near_effect, plain_effect, set_cc_effect, short_effect, stack_effect,
-    store_wide_effect, swap_bytes_effect, xor_wide_effect,
+use crate::computation::{
+    arithmetic_effect, atomic_effect, compare_const_effect, exchange_effect, mul_div_effect,
+    rm_reg_effect, set_cc_effect, shift_effect, swap_bytes_effect, unary_effect, xor_wide_effect,
 };
-use crate::data::{
-    arithmetic_effect, compare_const_effect, extend_effect, mem_reg_effect, mul_div_effect,
-    place_of, reg_rm_effect, rm_reg_effect, shift_effect, store_const_effect, store_low_effect,
-    unary_effect,
-};
+use crate::control::{indirect_effect, near_effect, plain_effect, short_effect, stack_effect};
 use crate::forms::{loading, storing};
 use crate::instr::Instr;
+use crate::moves::{
+    extend_effect, load_tls_effect, load_wide_effect, mem_reg_effect, move_cc_effect, place_of,
+    reg_rm_effect, store_const_effect, store_low_effect, store_wide_effect,
+};
 use crate::reg::Reg;
 use crate::values::{copy_of, reg_atom, signed_atom};
 use machine_effect::{Atom, Effect};

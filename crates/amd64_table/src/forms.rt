@@ -1,6 +1,6 @@
 // The forms that effects have in common.
 ghost use Rattle.std.specs.Prelude.{◌≡◌};
-ghost use Rattle.amd64_table.specs.Shapes as shapes;
+ghost use Rattle.amd64_table.specs.Forms as spec;
 
 use crate::memory::{Mem, Rm};
 use crate::reg::Reg;
@@ -16,7 +16,7 @@ pub fn computing(
     store: Option<(Access, Value)>,
     flags: FlagRule,
 ) -> Effect
-    ensures { result ≡ shapes.computing writes.items load store flags }
+    ensures { result ≡ spec.computing writes.items load store flags }
 {
     Effect {
         writes,
@@ -30,7 +30,7 @@ pub fn computing(
 
 /// An effect that goes on elsewhere.
 pub fn going(load: Option<Access>, next: Next) -> Effect
-    ensures { result ≡ shapes.going load next }
+    ensures { result ≡ spec.going load next }
 {
     Effect {
         writes: ArrayVec::new(),
@@ -44,7 +44,7 @@ pub fn going(load: Option<Access>, next: Next) -> Effect
 
 /// An effect on an X register.
 pub fn widening(load: Option<Access>, write: (u8, WideValue)) -> Effect
-    ensures { result ≡ shapes.widening load write }
+    ensures { result ≡ spec.widening load write }
 {
     Effect {
         writes: ArrayVec::new(),
@@ -57,9 +57,9 @@ pub fn widening(load: Option<Access>, write: (u8, WideValue)) -> Effect
 }
 
 /// An operand that is read becomes a value.
-#[tactic(auto, unfolding(crate::specs::Shapes::changing))]
+#[tactic(auto, unfolding(crate::specs::Forms::changing))]
 pub fn changing(width: Width, end: u64, rm: Rm, value: Value, flags: FlagRule) -> Effect
-    ensures { result ≡ shapes.changing width end rm value flags }
+    ensures { result ≡ spec.changing width end rm value flags }
 {
     computing(
         writes_of(rm, value),
@@ -70,9 +70,9 @@ pub fn changing(width: Width, end: u64, rm: Rm, value: Value, flags: FlagRule) -
 }
 
 /// An operand that isn't read becomes a value.
-#[tactic(auto, unfolding(crate::specs::Shapes::setting))]
+#[tactic(auto, unfolding(crate::specs::Forms::setting))]
 pub fn setting(bytes: u8, end: u64, rm: Rm, value: Value) -> Effect
-    ensures { result ≡ shapes.setting bytes end rm value }
+    ensures { result ≡ spec.setting bytes end rm value }
 {
     computing(
         writes_of(rm, value),
@@ -83,9 +83,9 @@ pub fn setting(bytes: u8, end: u64, rm: Rm, value: Value) -> Effect
 }
 
 /// An operand is read, and flags alone are set.
-#[tactic(auto, unfolding(crate::specs::Shapes::testing))]
+#[tactic(auto, unfolding(crate::specs::Forms::testing))]
 pub fn testing(width: Width, end: u64, rm: Rm, flags: FlagRule) -> Effect
-    ensures { result ≡ shapes.testing width end rm flags }
+    ensures { result ≡ spec.testing width end rm flags }
 {
     computing(
         ArrayVec::new(),
@@ -96,9 +96,9 @@ pub fn testing(width: Width, end: u64, rm: Rm, flags: FlagRule) -> Effect
 }
 
 /// An operand is read, and a register becomes a value.
-#[tactic(auto, unfolding(crate::specs::Shapes::reading))]
+#[tactic(auto, unfolding(crate::specs::Forms::reading))]
 pub fn reading(bytes: u8, end: u64, rm: Rm, reg: Reg, value: Value, flags: FlagRule) -> Effect
-    ensures { result ≡ shapes.reading bytes end rm reg value flags }
+    ensures { result ≡ spec.reading bytes end rm reg value flags }
 {
     computing(
         one_write(reg.number(), value),
@@ -109,17 +109,17 @@ pub fn reading(bytes: u8, end: u64, rm: Rm, reg: Reg, value: Value, flags: FlagR
 }
 
 /// A register alone becomes a value.
-#[tactic(auto, unfolding(crate::specs::Shapes::loading))]
+#[tactic(auto, unfolding(crate::specs::Forms::loading))]
 pub fn loading(reg: Reg, value: Value) -> Effect
-    ensures { result ≡ shapes.loading reg value }
+    ensures { result ≡ spec.loading reg value }
 {
     computing(one_write(reg.number(), value), None, None, FlagRule::Keep)
 }
 
 /// A value goes into memory.
-#[tactic(auto, unfolding(crate::specs::Shapes::storing))]
+#[tactic(auto, unfolding(crate::specs::Forms::storing))]
 pub fn storing(bytes: u8, end: u64, mem: Mem, value: Value) -> Effect
-    ensures { result ≡ shapes.storing bytes end mem value }
+    ensures { result ≡ spec.storing bytes end mem value }
 {
     computing(
         ArrayVec::new(),
@@ -130,7 +130,7 @@ pub fn storing(bytes: u8, end: u64, mem: Mem, value: Value) -> Effect
 }
 
 /// A register and memory become values, and both are read.
-#[tactic(auto, unfolding(crate::specs::Shapes::swapping))]
+#[tactic(auto, unfolding(crate::specs::Forms::swapping))]
 pub fn swapping(
     width: Width,
     end: u64,
@@ -139,7 +139,7 @@ pub fn swapping(
     value: Value,
     flags: FlagRule,
 ) -> Effect
-    ensures { result ≡ shapes.swapping width end mem write value flags }
+    ensures { result ≡ spec.swapping width end mem write value flags }
 {
     let access = access_of(width.bytes(), end, mem);
     computing(

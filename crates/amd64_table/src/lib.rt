@@ -13,14 +13,16 @@
 //! - `control`: Stack, Short, Near, Indirect, Plain.
 #![tactic(auto)]
 
+mod computation;
 mod condition;
 mod control;
-mod data;
 mod effects;
 mod forms;
 mod instr;
 mod listed;
 mod memory;
+mod mnemonic;
+mod moves;
 mod op;
 mod operand;
 mod reg;
@@ -35,10 +37,12 @@ pub use effects::effect;
 pub use instr::Instr;
 pub use listed::fits;
 pub use memory::{Mem, Rm, Scale};
+pub use mnemonic::{Mnemonic, mnemonic_of};
 pub use op::{
     Arithmetic, Atomic, Extend, Indirect, MemReg, MulDiv, Near, Plain, RegRm, RmReg, ShiftOp,
     Stack, StoreSize, Unary,
 };
+pub use operand::{Operand, is_locked, operands_of};
 pub use reg::Reg;
 pub use text::show;
 pub use width::Width;

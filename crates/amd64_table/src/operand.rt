@@ -10,8 +10,11 @@ use crate::xmm::Xmm;
 /// An operand as it is written.
 #[derive(Clone, Copy, Debug, PartialEq, Eq)]
 pub enum Operand {
+    /// A general register.
     Reg(Reg),
+    /// An X register.
     Wide(Xmm),
+    /// A place in memory.
     Mem(Mem),
     /// A constant, behind a `$`.
     Const(i64),
@@ -67,10 +70,10 @@ fn mem_reg_operands(op: MemReg, mem: Mem, reg: Reg) -> (Option<Operand>, Option<
 
 /// The operands in the order in which they are written.
 #[tactic(auto, unfolding(crate::specs::Texts::operands_of))]
-pub fn operands(instr: Instr) -> (Option<Operand>, Option<Operand>)
-    ensures { result ≡ spec.operands_of instr }
+pub fn operands_of(instr: &Instr) -> (Option<Operand>, Option<Operand>)
+    ensures { result ≡ spec.operands_of instr.now }
 {
-    match instr {
+    match *instr {
         Instr::RegRm { op, reg, rm, .. } => reg_rm_operands(op, reg, rm),
         Instr::ArithmeticReg { from, to, .. } => two(Operand::Reg(from), rm_operand(to)),
         Instr::MemReg { op, mem, reg, .. } => mem_reg_operands(op, mem, reg),
@@ -115,5 +118,19 @@ pub fn operands(instr: Instr) -> (Option<Operand>, Option<Operand>)
         Instr::XorWide { from, to } => two(Operand::Wide(from), Operand::Wide(to)),
         Instr::LoadTls { to } => two(Operand::Tls, Operand::Reg(to)),
         Instr::Plain { .. } => (None, None),
+    }
+}
+
+/// Whether LOCK stands before the instruction.
+#[tactic(auto, unfolding(crate::specs::Texts::is_locked))]
+pub fn is_locked(instr: &Instr) -> bool
+    ensures { result ≡ spec.is_locked instr.now }
+{
+    match *instr {
+        Instr::ArithmeticReg { lock, .. }
+        | Instr::ArithmeticConst { lock, .. }
+        | Instr::Unary { lock, .. }
+        | Instr::Atomic { lock, .. } => lock,
+        _ => false,
     }
 }
