@@ -4,14 +4,24 @@
 //! of a target than stands here.
 #![tactic(auto)]
 
+mod body;
 mod compare;
+mod few;
+mod frame;
 mod instr;
 mod laws;
 mod processor;
+mod refer;
+mod sequence;
 mod target;
 
+pub use body::{Body, Line, Placed};
 pub use compare::begins_with;
+pub use few::Few;
+pub use frame::{FrameShape, Guard, Site};
 pub use instr::{first_instr, flow_at, same};
-pub use laws::one_listing;
+pub use laws::{one_listing, runs_append, runs_cut};
 pub use processor::{Processor, Spelled};
+pub use refer::{Part, Picked, Refer, To};
+pub use sequence::Sequence;
 pub use target::Target;
