@@ -2,12 +2,12 @@ ghost use Rattle.std.specs.Prelude.{◌≡◌, ◌<◌};
 ghost use Rattle.amd64_code.specs.Reading as spec;
 ghost use Rattle.amd64_code.specs.ModRm.{field_in};
 
-use crate::constants::behind;
 use crate::head::Legacy;
 use crate::modrm::{field_in, low_in, operand_size, rm_in};
 use crate::registers::{reg_at, xmm_at};
 use crate::rex::Rex;
 use amd64_table::{Mem, Reg, Rm, Width, Xmm};
+use goasm_base::behind_or_empty;
 
 /// What stands around an opcode: the prefixes before it, and the bytes behind it.
 #[derive(Clone, Copy)]
@@ -84,6 +84,6 @@ impl Fields<'_> {
     pub fn constant(&self) -> &[u8]
         ensures { result.now ≡ spec.behind_operand self.now.tail.now }
     {
-        behind(self.tail, operand_size(self.tail))
+        behind_or_empty(self.tail, operand_size(self.tail))
     }
 }

@@ -3,10 +3,11 @@ ghost use Rattle.std.specs.Prelude.{◌≡◌, ◌<◌, ◌≤◌, ◌+◌, ◌+
 ghost use Rattle.arrayvec.specs.ArrayVec.{array_vec_len};
 ghost use Rattle.amd64_code.specs.ModRm as spec;
 
-use crate::constants::{behind, byte_at, byte_in, is_byte, long_in, push_byte, push_long};
+use crate::constants::{byte_at, byte_in, is_byte, long_in, push_byte, push_long};
 use crate::registers::reg_at;
 use amd64_table::{Mem, Reg, Rm, Scale};
 use asm_target::Spelled;
+use goasm_base::behind_or_empty;
 
 /// ModRM's field reg, or the index of SIB.
 pub fn field_in(bytes: &[u8]) -> u8
@@ -52,7 +53,7 @@ fn sib_in(x: bool, b: bool, mode: u8, bytes: &[u8]) -> Mem
     ensures { result ≡ spec.sib_in x b mode bytes.now }
 {
     let base = reg_at(b, low_in(bytes));
-    let disp = disp_in(mode, behind(bytes, 1));
+    let disp = disp_in(mode, behind_or_empty(bytes, 1));
     let index = field_in(bytes);
     if index == 4 && !x {
         Mem::Base { base, disp }
@@ -72,7 +73,7 @@ fn mem_in(x: bool, b: bool, bytes: &[u8]) -> Mem
 {
     let mode = byte_at(bytes, 0) / 64;
     let low = low_in(bytes);
-    let rest = behind(bytes, 1);
+    let rest = behind_or_empty(bytes, 1);
     if mode == 0 && low == 5 {
         Mem::Symbol {
             distance: long_in(rest),
