@@ -1,12 +1,13 @@
 -- What computes is read back from its spelling, whatever follows. Where two clauses have one proof, the second one is checked for
--- each other operation.
-use Rattle.std.specs.Prelude.{◌==◌, slice_index, if◌then◌else◌}
+-- each other operation, register or condition.
+use Rattle.std.specs.Prelude.{slice_index, if◌then◌else◌}
 use Rattle.std.proofs.Common.{◌≡◌, ℕ, ℤ, Bool, true, false, List, [], ◌∷◌, ◌++◌, ◌+◌, ◌/◌, ◌%◌, ◌<◌, refl, ap, ◌∙◌, arith}
-use Rattle.std.proofs.lemmas.Bool.{ne_eqb}
 use Rattle.machine_effect.specs.Numbers.{fits as fits_bits}
 use Rattle.amd64_table.specs.declared.reg.Reg.{Reg}
+use Rattle.amd64_table.specs.declared.reg.Reg.TheVariants.{Ax}
 use Rattle.amd64_table.specs.declared.xmm.Xmm.{Xmm}
 use Rattle.amd64_table.specs.declared.condition.Cc.{Cc}
+use Rattle.amd64_table.specs.declared.condition.Cc.TheVariants.{Over}
 use Rattle.amd64_table.specs.declared.width.Width.{Width}
 use Rattle.amd64_table.specs.declared.width.Width.TheVariants.{L}
 use Rattle.amd64_table.specs.declared.memory.Mem.{Mem}
@@ -31,15 +32,16 @@ use Rattle.amd64_table.specs.Operands.{is_quad}
 use Rattle.amd64_table.specs.Fits.{fits_mem, fits_rm}
 use Rattle.amd64_code.specs.declared.head.Opcode.TheVariants.{One}
 use Rattle.amd64_code.specs.Constants.{byte_of, long_of, short_of, byte_in, long_in}
+use Rattle.amd64_code.specs.Registers.{reg_at, cc_at}
 use Rattle.amd64_code.specs.ModRm.{fields, rm_bytes}
 use Rattle.amd64_code.specs.Opcodes.{arithmetic_digit, arithmetic_at, unary_opcode, unary_digit, mul_div_digit, mul_div_at, rm_reg_opcode, shift_digit, shift_at, atomic_opcode}
 use Rattle.amd64_code.specs.Heads.{head_bytes}
 use Rattle.amd64_code.specs.Spelling.{spelling_of, rex_of, locked_head}
 use Rattle.amd64_code.specs.Reading.{reading, memory_of, one_byte, arithmetic_row, constant_group, row_8, row_c, unary_group, step_group, row_f, two_bytes, row_0f_a, row_0f_b, row_0f_c}
 use Rattle.amd64_code.proofs.HeadLaws.{head_read}
-use Rattle.amd64_code.proofs.RegisterLaws.{xmm_back, cc_back, cc_below, low_below, low_xmm_below}
+use Rattle.amd64_code.proofs.RegisterLaws.{xmm_back, low_xmm_below}
 use Rattle.amd64_code.proofs.ConstantLaws.{byte_back, long_back}
-use Rattle.amd64_code.proofs.PartLaws.{behind_head, constant_read, digit_read, reg_rm_read, width_back, opcode_reg_back}
+use Rattle.amd64_code.proofs.RowLaws.{behind_head, constant_read, digit_read, reg_rm_read, width_back}
 
 pub arithmetic_reg_back : (op : Arithmetic) (lock : Bool) (width : Width) (from : Reg) (to : Rm) (rest : List ℕ)
     → fits_rm to ≡ true
@@ -147,21 +149,15 @@ atomic_back op lock width reg mem rest fit =
 
 pub set_cc_back : (code : Cc) (to : Rm) (rest : List ℕ) → fits_rm to ≡ true
     → reading (spelling_of (instr.SetCc code to) ++ rest) ≡ instr.SetCc code to
-unfolding spelling_of two_bytes
-set_cc_back code to rest fit =
-    let below : cc_number code < 16 = cc_below code in
-    let high : (0x90 + cc_number code) / 16 ≡ 9 = omega arith in
-    let low : (0x90 + cc_number code) % 16 ≡ cc_number code = omega arith in
-    digit_read _ L 0 to rest (λ w digit. instr.SetCc code) refl refl (omega arith) fit (λ tail. rw (high, low, cc_back code) refl)
+unfolding spelling_of cc_number cc_at two_bytes
+set_cc_back Over to rest fit = digit_read _ L 0 to rest (λ w digit. instr.SetCc Over) refl refl (omega arith) fit (λ tail. refl)
+set_cc_back code to rest fit = digit_read _ L 0 to rest (λ w digit. instr.SetCc code) refl refl (omega arith) fit (λ tail. refl)
 
 pub swap_bytes_back : (width : Width) (reg : Reg) (rest : List ℕ)
     → reading (spelling_of (instr.SwapBytes width reg) ++ rest) ≡ instr.SwapBytes width reg
-unfolding spelling_of two_bytes row_0f_c
-swap_bytes_back width reg rest =
-    let low : low_bits reg < 8 = low_below reg in
-    let high : (0xc8 + low_bits reg) / 16 ≡ 12 = omega arith in
-    let apart : (0xc8 + low_bits reg == 0xc1) ≡ false = ne_eqb (0xc8 + low_bits reg) 0xc1 (omega arith) in
-    head_read _ rest refl ∙ rw (high, apart, width_back width, opcode_reg_back 0xc8 reg refl) refl
+unfolding spelling_of number_of reg_at two_bytes row_0f_c
+swap_bytes_back width Ax rest = head_read _ rest refl ∙ ap (λ w. instr.SwapBytes w Ax) (width_back width)
+swap_bytes_back width reg rest = head_read _ rest refl ∙ ap (λ w. instr.SwapBytes w reg) (width_back width)
 
 pub xor_wide_back : (from to : Xmm) (rest : List ℕ)
     → reading (spelling_of (instr.XorWide from to) ++ rest) ≡ instr.XorWide from to

@@ -28,19 +28,6 @@ abbrev pub is_opcode : Opcode → Bool
 is_opcode (One byte) = not (byte == 0xf0 || byte == 0x66 || byte == 0xf3 || byte == 0x64 || byte / 16 == 4 || byte == 0x0f)
 is_opcode (Two byte) = true
 
--- .. as the opcodes of most rows
-pub opcode_in_row : (byte : ℕ) → byte < 0xf0 → (byte / 16 ≡ 4 → ⊥) → (byte / 16 ≡ 6 → ⊥) → (byte ≡ 0x0f → ⊥)
-    → is_opcode (One byte) ≡ true
-opcode_in_row byte most four six two =
-    rw (
-      ne_eqb byte 0xf0 (omega arith),
-      ne_eqb byte 0x66 (λ is. six (omega (arith, is))),
-      ne_eqb byte 0xf3 (omega arith),
-      ne_eqb byte 0x64 (λ is. six (omega (arith, is))),
-      ne_eqb (byte / 16) 4 four,
-      ne_eqb byte 0x0f two,
-    ) refl
-
 -- the opcode is read of what begins with it
 record ReadsOpcode (opcode : Opcode) (tail found : List ℕ) : Type 0 where
   is : opcode_in found ≡ opcode

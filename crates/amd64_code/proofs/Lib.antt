@@ -2,7 +2,7 @@ pub mod RegisterLaws
 pub mod ConstantLaws
 pub mod HeadLaws
 pub mod ModRmLaws
-pub mod PartLaws
+pub mod RowLaws
 pub mod MoveLaws
 pub mod ComputationLaws
 pub mod ControlLaws

@@ -1,12 +1,14 @@
--- What copies is read back from its spelling, whatever follows.
-use Rattle.std.specs.Prelude.{nat_lt, if◌then◌else◌}
+-- What copies is read back from its spelling, whatever follows. Where two clauses have one proof, the second one is checked for
+-- each other operation, register or condition.
+use Rattle.std.specs.Prelude.{if◌then◌else◌}
 use Rattle.std.specs.Int.{w32, to_le_bytes}
 use Rattle.std.proofs.Common.{◌≡◌, ℕ, ℤ, Bool, true, false, List, [], ◌∷◌, ◌++◌, ◌+◌, ◌/◌, ◌%◌, ◌<◌, ◌^◌, refl, ap, ◌∙◌, arith}
-use Rattle.std.proofs.lemmas.Bool.{le-ltb}
 use Rattle.machine_effect.specs.Numbers.{fits as fits_bits}
 use Rattle.amd64_table.specs.declared.reg.Reg.{Reg}
+use Rattle.amd64_table.specs.declared.reg.Reg.TheVariants.{Ax}
 use Rattle.amd64_table.specs.declared.xmm.Xmm.{Xmm}
 use Rattle.amd64_table.specs.declared.condition.Cc.{Cc}
+use Rattle.amd64_table.specs.declared.condition.Cc.TheVariants.{Over}
 use Rattle.amd64_table.specs.declared.width.Width.{Width}
 use Rattle.amd64_table.specs.declared.width.Width.TheVariants.{Q, L}
 use Rattle.amd64_table.specs.declared.memory.Mem.{Mem}
@@ -22,23 +24,20 @@ use Rattle.amd64_table.specs.declared.op.StoreSize.TheVariants as size
 use Rattle.amd64_table.specs.declared.op.Extend.{Extend}
 use Rattle.amd64_table.specs.declared.op.Extend.TheVariants as extend
 use Rattle.amd64_table.specs.declared.instr.Instr.TheVariants as instr
-use Rattle.amd64_table.specs.Registers.{low_bits, is_high, low_bits_xmm, is_high_xmm}
+use Rattle.amd64_table.specs.Registers.{number_of, low_bits, is_high, low_bits_xmm, is_high_xmm}
 use Rattle.amd64_table.specs.Conditions.{cc_number}
 use Rattle.amd64_table.specs.Fits.{fits_mem, fits_rm}
 use Rattle.amd64_code.specs.declared.head.Opcode.TheVariants.{One}
 use Rattle.amd64_code.specs.Constants.{byte_of, long_of, quad_of, byte_in, long_in}
-use Rattle.amd64_code.specs.Registers.{xmm_at}
+use Rattle.amd64_code.specs.Registers.{reg_at, xmm_at, cc_at}
 use Rattle.amd64_code.specs.ModRm.{fields, rm_bytes}
 use Rattle.amd64_code.specs.Opcodes.{arithmetic_digit, arithmetic_at, reg_rm_opcode, mem_reg_opcode}
 use Rattle.amd64_code.specs.Heads.{head_bytes}
 use Rattle.amd64_code.specs.Spelling.{spelling_of, load_quad_bytes, rex_of, rex_b, plain_head, store_low_head, extend_head}
 use Rattle.amd64_code.specs.Reading.{reading, memory_of, one_byte, arithmetic_row, copy_or_store, load, row_8, row_b, constant_copy, row_c, two_bytes, row_0f_b}
-use Rattle.amd64_code.proofs.HeadLaws.{is_opcode, opcode_in_row}
-use Rattle.amd64_code.proofs.RegisterLaws.{reg_back, xmm_back, cc_back, cc_below, low_below, low_xmm_below}
+use Rattle.amd64_code.proofs.RegisterLaws.{reg_back, xmm_back, low_below, low_xmm_below}
 use Rattle.amd64_code.proofs.ConstantLaws.{byte_back, long_back, unsigned_back, quad_back}
-use Rattle.amd64_code.proofs.PartLaws.{behind_head, operand_read, constant_read, reg_rm_read, opcode_reg_back}
-
--- where two clauses have one proof, the second one is checked for each other operation
+use Rattle.amd64_code.proofs.RowLaws.{behind_head, operand_read, constant_read, reg_rm_read}
 
 pub reg_rm_back : (op : RegRm) (width : Width) (reg : Reg) (rm : Rm) (rest : List ℕ) → fits_rm rm ≡ true
     → reading (spelling_of (instr.RegRm op width reg rm) ++ rest) ≡ instr.RegRm op width reg rm
@@ -73,22 +72,22 @@ extend_back extend.WordZero from to rest fit =
 extend_back op from to rest fit =
     reg_rm_read _ Q to from rest (λ w reg rm. instr.Extend op rm reg) refl refl fit (λ tail. refl)
 
--- an opcode with a register's low bits
-pub b8_code : (to : Reg) → is_opcode (One (0xb8 + low_bits to)) ≡ true
-b8_code to = opcode_in_row (0xb8 + low_bits to) (omega arith) (omega arith) (omega arith) (omega arith)
-
-b8_row : (to : Reg) → (0xb8 + low_bits to) / 16 ≡ 11
-b8_row to = omega arith
-
-b8_high : (to : Reg) → nat_lt (0xb8 + low_bits to) 0x40 ≡ false
-b8_high to = le-ltb (0xb8 + low_bits to) 0x40 (omega arith)
-
 pub load_long_back : (constant : ℕ) (to : Reg) (rest : List ℕ) → constant < 2 ^ 32
     → reading (spelling_of (instr.LoadLong constant to) ++ rest) ≡ instr.LoadLong constant to
-unfolding spelling_of one_byte row_b
+unfolding spelling_of number_of reg_at one_byte row_b
+load_long_back constant Ax rest fit =
+    behind_head _ (to_le_bytes w32 constant) rest refl ∙ ap (λ c. instr.LoadLong c Ax) (unsigned_back constant rest fit)
 load_long_back constant to rest fit =
-    behind_head _ (to_le_bytes w32 constant) rest (b8_code to)
-    ∙ rw (b8_high to, b8_row to, unsigned_back constant rest fit, opcode_reg_back 0xb8 to refl) refl
+    behind_head _ (to_le_bytes w32 constant) rest refl ∙ ap (λ c. instr.LoadLong c to) (unsigned_back constant rest fit)
+
+quad_back_8 : (constant : ℤ) (to : Reg) (rest : List ℕ) → fits_bits 64 constant ≡ true
+    → reading ((head_bytes (plain_head (rex_b true (is_high to)) (One (0xb8 + low_bits to))) ++ quad_of constant) ++ rest)
+    ≡ instr.LoadQuad constant to
+unfolding number_of reg_at one_byte row_b
+quad_back_8 constant Ax rest fit =
+    behind_head _ (quad_of constant) rest refl ∙ ap (λ c. instr.LoadQuad c Ax) (quad_back constant rest fit)
+quad_back_8 constant to rest fit =
+    behind_head _ (quad_of constant) rest refl ∙ ap (λ c. instr.LoadQuad c to) (quad_back constant rest fit)
 
 load_quad_cases : (constant : ℤ) (to : Reg) (rest : List ℕ) (small : Bool)
     → fits_bits 32 constant ≡ small → fits_bits 64 constant ≡ true
@@ -96,14 +95,12 @@ load_quad_cases : (constant : ℤ) (to : Reg) (rest : List ℕ) (small : Bool)
     then head_bytes (plain_head (rex_of true false (operand.Reg to)) (One 0xc7)) ++ rm_bytes 0 (operand.Reg to) ++ long_of constant
     else head_bytes (plain_head (rex_b true (is_high to)) (One (0xb8 + low_bits to))) ++ quad_of constant) ++ rest)
     ≡ instr.LoadQuad constant to
-unfolding one_byte row_b row_c constant_copy fits_rm
+unfolding one_byte row_c constant_copy fits_rm
 load_quad_cases constant to rest true small fit =
     constant_read _ Q 0 (operand.Reg to) (long_of constant) rest (λ w digit rm rest. constant_copy w rm (long_in rest))
     refl refl (omega arith) refl (λ tail. refl)
     ∙ ap (λ c. instr.LoadQuad c to) (long_back constant rest small)
-load_quad_cases constant to rest false small fit =
-    behind_head _ (quad_of constant) rest (b8_code to)
-    ∙ rw (b8_high to, b8_row to, quad_back constant rest fit, opcode_reg_back 0xb8 to refl) refl
+load_quad_cases constant to rest false small fit = quad_back_8 constant to rest fit
 
 pub load_quad_back : (constant : ℤ) (to : Reg) (rest : List ℕ) → fits_bits 64 constant ≡ true
     → reading (spelling_of (instr.LoadQuad constant to) ++ rest) ≡ instr.LoadQuad constant to
@@ -135,13 +132,11 @@ lea_back from to rest fit =
 
 pub move_cc_back : (code : Cc) (width : Width) (from : Rm) (to : Reg) (rest : List ℕ) → fits_rm from ≡ true
     → reading (spelling_of (instr.MoveCc code width from to) ++ rest) ≡ instr.MoveCc code width from to
-unfolding spelling_of two_bytes
+unfolding spelling_of cc_number cc_at two_bytes
+move_cc_back Over width from to rest fit =
+    reg_rm_read _ width to from rest (λ w reg rm. instr.MoveCc Over w rm reg) refl refl fit (λ tail. refl)
 move_cc_back code width from to rest fit =
-    let below : cc_number code < 16 = cc_below code in
-    let high : (0x40 + cc_number code) / 16 ≡ 4 = omega arith in
-    let low : (0x40 + cc_number code) % 16 ≡ cc_number code = omega arith in
-    reg_rm_read _ width to from rest (λ w reg rm. instr.MoveCc code w rm reg) refl refl fit
-    (λ tail. rw (high, low, cc_back code) refl)
+    reg_rm_read _ width to from rest (λ w reg rm. instr.MoveCc code w rm reg) refl refl fit (λ tail. refl)
 
 pub load_wide_back : (from : Mem) (to : Xmm) (rest : List ℕ) → fits_mem from ≡ true
     → reading (spelling_of (instr.LoadWide from to) ++ rest) ≡ instr.LoadWide from to

@@ -19,10 +19,6 @@ pub cc_back : (code : Cc) → cc_at (cc_number code) ≡ code
 unfolding cc_number cc_at
 cc_back code = search rules
 
-pub cc_below : (code : Cc) → cc_number code < 16
-unfolding cc_number
-cc_below code = search rules
-
 pub low_below : (reg : Reg) → low_bits reg < 8
 low_below reg = omega arith
 

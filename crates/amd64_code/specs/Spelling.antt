@@ -123,7 +123,6 @@ plain_bytes plain.Rdtsc = 0x0f ∷ 0x31 ∷ []
 plain_bytes plain.Undef = 0x0f ∷ 0x0b ∷ []
 
 unfoldable pub spelling_of : Instr → List ℕ
-
 -- MOVQ reg, rm; CMPQ rm, reg; TESTQ reg, rm
 spelling_of (instr.RegRm op width reg rm) =
     head_bytes (plain_head (rex_of (is_quad width) (is_high reg) rm) (One (reg_rm_opcode op))) ++ rm_bytes (low_bits reg) rm
@@ -166,7 +165,6 @@ spelling_of (instr.StoreWide from to) =
 spelling_of (instr.LoadTls to) =
     head_bytes (prefixed_head Fs (record { w = true; r = is_high to; x = false; b = false }) (One 0x8b))
     ++ fields 0 (low_bits to) 4 ∷ 0x25 ∷ 0xf8 ∷ 0xff ∷ 0xff ∷ 0xff ∷ []
-
 -- ADDQ, ORQ, ADCQ, SBBQ, ANDQ, SUBQ, XORQ from, to
 spelling_of (instr.ArithmeticReg op lock width from to) =
     head_bytes (locked_head lock (rex_of (is_quad width) (is_high from) to) (One (8 * arithmetic_digit op + 1)))
@@ -212,7 +210,6 @@ spelling_of (instr.SwapBytes width reg) =
 spelling_of (instr.XorWide from to) =
     head_bytes (prefixed_head OperandSize (record { w = false; r = is_high_xmm to; x = false; b = is_high_xmm from }) (Two 0xef))
     ++ fields 3 (low_bits_xmm to) (low_bits_xmm from) ∷ []
-
 -- PUSHQ reg; POPQ reg
 spelling_of (instr.Stack op reg) = head_bytes (plain_head (rex_b false (is_high reg)) (One (stack_opcode op + low_bits reg)))
 -- JMP goal; JEQ goal, with one byte

@@ -3,6 +3,9 @@
 //! A spelling has LOCK, a prefix, REX, the opcode, ModRM, SIB, a displacement and a constant, each only where it
 //! is needed. The public source is the Intel 64 and IA-32 Architectures Software Developer's Manual, volume 2,
 //! "Instruction Format" and the opcode maps.
+//!
+//! `spell` has a function for each shape of instruction, in the modules `moves`, `computation` and `control`, cut as those
+//! of `amd64_table`; `read` has a function for each row of the opcode maps that has several instructions.
 #![tactic(auto)]
 
 mod computation;

@@ -8,8 +8,8 @@ ghost use Rattle.amd64_code.specs.Spelling.{spelling_of};
 
 use crate::constants::{push_all, push_byte, push_long, push_quad, push_unsigned};
 use crate::head::{Head, Legacy, Opcode};
-use crate::opcodes::{mem_reg_opcode, reg_rm_opcode};
 use crate::modrm::fields;
+use crate::opcodes::{mem_reg_opcode, reg_rm_opcode};
 use crate::rex::{Rex, is_byte_operand};
 use amd64_table::{Cc, Extend, Mem, MemReg, Reg, RegRm, Rm, StoreSize, Width, Xmm};
 use asm_target::Spelled;

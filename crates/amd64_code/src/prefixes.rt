@@ -3,7 +3,7 @@
 ghost use Rattle.std.specs.Prelude.{◌≡◌};
 ghost use Rattle.amd64_code.specs.Heads as spec;
 
-use crate::constants::{byte_at};
+use crate::constants::byte_at;
 use crate::head::{Legacy, Opcode};
 use crate::rex::Rex;
 use goasm_base::behind_or_empty;

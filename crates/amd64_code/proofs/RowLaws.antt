@@ -25,13 +25,6 @@ pub width_back : (width : Width) → (if is_quad width then Q else L) ≡ width
 width_back Q = refl
 width_back L = refl
 
--- a register whose low bits stand in the opcode
-pub opcode_reg_back : (base : ℕ) (reg : Reg) → base % 8 ≡ 0 → reg_at (is_high reg) ((base + low_bits reg) % 8) ≡ reg
-opcode_reg_back base reg whole =
-    let below : low_bits reg < 8 = low_below reg in
-    let low : (base + low_bits reg) % 8 ≡ low_bits reg = omega arith in
-    ap (reg_at (is_high reg)) low ∙ reg_back reg
-
 pub behind_head : (head : Head) (body rest : List ℕ) → is_opcode head.opcode ≡ true
     → reading ((head_bytes head ++ body) ++ rest) ≡ by_head head (body ++ rest)
 behind_head head body rest code = ap reading (append_assoc (head_bytes head) body rest) ∙ head_read head (body ++ rest) code
