@@ -1,5 +1,5 @@
 -- The bits of a register and the number of a condition give it back.
-use Rattle.std.proofs.Common.{◌≡◌, ℕ, Bool, ◌<◌, sym, arith, rules}
+use Rattle.std.proofs.Common.{◌≡◌, ◌<◌, arith, rules}
 use Rattle.amd64_table.specs.declared.reg.Reg.{Reg}
 use Rattle.amd64_table.specs.declared.xmm.Xmm.{Xmm}
 use Rattle.amd64_table.specs.declared.condition.Cc.{Cc}
@@ -24,13 +24,3 @@ low_below reg = omega arith
 
 pub low_xmm_below : (xmm : Xmm) → low_bits_xmm xmm < 8
 low_xmm_below xmm = omega arith
-
--- .. so they name it alone
-pub reg_is : (high : Bool) (low : ℕ) (reg : Reg) → is_high reg ≡ high → low_bits reg ≡ low → reg ≡ reg_at high low
-reg_is high low reg high_is low_is = sym (rw (high_is, low_is) at (reg_back reg))
-
-pub xmm_is : (high : Bool) (low : ℕ) (xmm : Xmm) → is_high_xmm xmm ≡ high → low_bits_xmm xmm ≡ low → xmm ≡ xmm_at high low
-xmm_is high low xmm high_is low_is = sym (rw (high_is, low_is) at (xmm_back xmm))
-
-pub cc_is : (number : ℕ) (code : Cc) → cc_number code ≡ number → code ≡ cc_at number
-cc_is number code is = sym (rw is at (cc_back code))

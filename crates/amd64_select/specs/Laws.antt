@@ -1,8 +1,9 @@
 -- The laws of processors, for amd64.
-use Rattle.std.proofs.Common.{◌≡◌, ℕ, ◌<◌, ◌^◌, refl, sym, ◌∙◌, arith, inl}
+use Rattle.std.proofs.Common.{refl, sym, ◌∙◌, arith, inl}
 use Rattle.asm_target.specs.Architecture.{IsArchitecture, amd64 as architecture_of_amd64}
 use Rattle.asm_target.specs.Laws as laws
-use Rattle.amd64_table.specs.declared.instr.Instr.{Instr}
+use Rattle.amd64_table.proofs.BoundLemmas as bound
+use Rattle.amd64_table.proofs.NextLemmas as next
 use Rattle.amd64_table.proofs.MoveLemmas.{flow_moves, moves_near}
 use Rattle.amd64_code.specs.InstructionSet.{amd64, Fits, end_of}
 use Rattle.amd64_code.proofs.Laws.{begins_read}
@@ -27,14 +28,11 @@ no_padding i rest fit begins = not_padding i rest fit begins
 pub small_moves : laws.HasSmallMoves amd64 Fits architecture_of_amd64.shape
 small_moves i pc k fit moved = moves_near i fit k (sym (flow_moves i (end_of i pc) fit) ∙ moved)
 
-end_below : (i : Instr) (pc : ℕ) → end_of i pc < 2 ^ 64
-end_below i pc = omega arith
-
 pub bounded : laws.HasBoundedEffects amd64 Fits
-bounded i pc fit below = ?
+bounded i pc fit below = bound.bounded i (end_of i pc) fit
 
 pub only_goes : laws.HasOnlyGoing amd64 Fits
-only_goes i pc fit below = ?
+only_goes i pc fit below = next.only_goes i (end_of i pc)
 
 pub links : laws.HasLinks amd64 Fits architecture_of_amd64.shape
-links i pc fit below = ?
+links i pc fit below = next.links i (end_of i pc)
