@@ -10,3 +10,4 @@ pub mod Effects
 pub mod Mnemonics
 pub mod Texts
 pub mod StackMoves
+pub mod Runs
