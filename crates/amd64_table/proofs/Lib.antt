@@ -1,2 +1,4 @@
 pub mod MoveLemmas
 pub mod RegisterLemmas
+pub mod NextLemmas
+pub mod BoundLemmas
