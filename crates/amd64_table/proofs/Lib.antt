@@ -2,3 +2,4 @@ pub mod MoveLemmas
 pub mod RegisterLemmas
 pub mod NextLemmas
 pub mod BoundLemmas
+pub mod StepLemmas
