@@ -1,1 +1,3 @@
+pub mod FlowLemmas
 pub mod ListingLemmas
+pub mod RunLemmas

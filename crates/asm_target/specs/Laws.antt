@@ -1,8 +1,10 @@
--- The laws of the trait `Target`.
-use Rattle.std.specs.Prelude.{◌≡◌, ℕ, ℤ, pos, negsuc, List, ◌++◌, ◌-◌, ◌%◌, ◌^◌, ◌≤◌, ◌≤ℤ◌, length}
+-- The laws of the trait `Processor`.
+use Rattle.std.specs.Prelude.{◌≡◌, ℕ, ℤ, List, ◌++◌, ◌%◌, ◌^◌, ◌<◌, ◌≤◌, length}
 use Rattle.machine_effect.specs.declared.flow.Shape.{Shape}
 use Rattle.machine_effect.specs.declared.flow.SpMove.TheVariants.{By}
 use Rattle.machine_effect.specs.Flow.{flow_of}
+use Rattle.machine_effect.specs.Shapes.{IsStackDistance}
+use Rattle.machine_effect.specs.Bounds.{IsBounded, OnlyGoes, LinksBy}
 use Rattle.asm_target.specs.Architecture.{padding_of}
 use Rattle.asm_target.specs.InstructionSet.{InstructionSet, Begins}
 
@@ -11,11 +13,6 @@ pub record IsLength (quantum n : ℕ) : Type 0 where
   pub least : 1 ≤ n
   pub most : n ≤ 15
   pub whole : n % quantum ≡ 0
-
--- by how much a constant moves a stack pointer
-pub record IsStackDistance (k : ℤ) : Type 0 where
-  pub least : negsuc (2 ^ 31 - 1) ≤ℤ k
-  pub most : k ≤ℤ pos (2 ^ 31)
 
 module _ {Instr : Type 0} (set : InstructionSet Instr) (fits : Instr → Type 0) where
   -- a spelling has 1 to 15 bytes, in whole quanta
@@ -36,3 +33,15 @@ module _ {Instr : Type 0} (set : InstructionSet Instr) (fits : Instr → Type 0)
   abbrev pub HasSmallMoves : Shape → Type 0
   HasSmallMoves shape =
       (i : Instr) (pc : ℕ) (k : ℤ) → fits i → (flow_of (set.effect i pc) shape).sp ≡ By k → IsStackDistance k
+
+  -- an effect names registers, widths and scales that there are
+  abbrev pub HasBoundedEffects : Type 0
+  HasBoundedEffects = (i : Instr) (pc : ℕ) → fits i → pc < 2 ^ 64 → IsBounded (set.effect i pc)
+
+  -- an instruction behind which the machine doesn't go on does nothing else, but for the link of a call
+  abbrev pub HasOnlyGoing : Type 0
+  HasOnlyGoing = (i : Instr) (pc : ℕ) → fits i → pc < 2 ^ 64 → OnlyGoes (set.effect i pc)
+
+  -- a call has a link exactly where there is a link register, and it isn't the stack pointer
+  abbrev pub HasLinks : Shape → Type 0
+  HasLinks shape = (i : Instr) (pc : ℕ) → fits i → pc < 2 ^ 64 → LinksBy shape (set.effect i pc).next

@@ -1,3 +1,10 @@
 pub mod Architecture
 pub mod InstructionSet
 pub mod Laws
+pub mod Sequences
+pub mod DepthChange
+pub mod FlowFunction
+pub mod FlowRules
+pub mod Runs
+pub mod DepthCases
+pub mod FlowCases

@@ -1,12 +1,19 @@
--- The laws of targets, for the sample.
+-- The laws of processors, for the sample.
 use Rattle.std.specs.Int.{w8, w32, w64, cast_signed, cast_unsigned, from_le_bytes, to_le_bytes}
 use Rattle.std.specs.Prelude.{pos, negsuc, slice_index, FitsSigned}
-use Rattle.std.proofs.Common.{◌≡◌, ℕ, ℤ, List, ◌∷◌, ◌++◌, suc, ◌+◌, ◌-◌, ◌*◌, ◌/◌, ◌%◌, ◌^◌, ◌<◌, ◌≤◌, Some, length, drop, refl, ap, ◌∙◌, arith, rules, inl, subst}
+use Rattle.std.proofs.Common.{◌≡◌, ℕ, ℤ, List, [], ◌∷◌, ◌++◌, suc, ◌+◌, ◌-◌, ◌*◌, ◌/◌, ◌%◌, ◌^◌, ◌<◌, ◌≤◌, Some, length, drop, refl, ap, ◌∙◌, arith, rules, inl, subst}
 use Rattle.std.proofs.lemmas.Int.{to_z-of_z, ints}
 use Rattle.std.proofs.lemmas.Nat.{from_le_bytes-to_le_bytes_4}
 use Rattle.std.proofs.lemmas.Bool.Decides.{nat_tests}
+use Rattle.std.proofs.lemmas.List.Elements.{All-nil, All-cons}
+use Rattle.std.specs.Prelude.{All}
 use Rattle.machine_effect.specs.Numbers.{signed}
+use Rattle.machine_effect.specs.declared.effect.Value.{Value}
+use Rattle.machine_effect.specs.declared.op.Op.{Op}
+use Rattle.machine_effect.specs.declared.op.Op.TheVariants.{Add, Subtract}
 use Rattle.machine_effect.specs.Flow.{flow_of}
+use Rattle.machine_effect.specs.Shapes.{IsStackDistance}
+use Rattle.machine_effect.specs.Bounds.{IsRegister, IsWidth, IsBoundedValue, IsBoundedOp, IsBoundedAccess}
 use Rattle.asm_target.specs.Architecture.{IsArchitecture, amd64}
 use Rattle.asm_target.specs.InstructionSet.{Begins}
 use Rattle.asm_target.specs.Laws as laws
@@ -15,10 +22,11 @@ use Rattle.asm_target_sample.specs.declared.instr.Instr.TheVariants.{Nop, Move, 
 use Rattle.asm_target_sample.specs.declared.register.Register.{Register}
 use Rattle.asm_target_sample.specs.declared.register.Register.TheVariants.{Ax, Cx, Dx, Bx, Sp, Bp, Si, Di}
 use Rattle.asm_target_sample.specs.Register.{number_of, register_of}
+use Rattle.asm_target_sample.specs.Effects.{copy_of, with_sp, below_sp}
 use Rattle.asm_target_sample.specs.Instr.{spelling_of, Fits, sample}
 use Rattle.asm_target_sample.specs.Reading.{reading}
 
-pub architecture : IsArchitecture (record { machine = 62; quantum = 1; shape = amd64.shape })
+pub architecture : IsArchitecture (record { machine = 62; quantum = 1; shape = amd64.shape; growth = amd64.growth })
 architecture = inl refl
 
 -- any number of bytes is whole quanta of one byte
@@ -103,7 +111,7 @@ no_padding Return rest fits begins = omega (arith, first_byte 0xcc 0xc3 rest _ b
 
 -- a constant of one byte
 small_constant : (constant : ℤ) → FitsSigned w8 constant
-    → laws.IsStackDistance (signed 64 (cast_unsigned w64 constant))
+    → IsStackDistance (signed 64 (cast_unsigned w64 constant))
 small_constant (pos n) fits =
     let low : n < 128 = omega (arith, ints) in
     let same : signed 64 n ≡ pos n = grind (arith, nat_tests) in
@@ -126,9 +134,82 @@ small_moves (Move from Si) pc k fits moved = cc
 small_moves (Move from Di) pc k fits moved = cc
 small_moves (Push register) pc k fits moved =
     let by : negsuc 7 ≡ k = cc moved in
-    subst laws.IsStackDistance by (record { least = search rules; most = search rules })
+    subst IsStackDistance by (record { least = search rules; most = search rules })
 small_moves (AddSp constant) pc k fits moved =
     let by : signed 64 (cast_unsigned w64 constant) ≡ k = cc moved in
-    subst laws.IsStackDistance by (small_constant constant fits)
+    subst IsStackDistance by (small_constant constant fits)
 small_moves (Jump distance) pc k fits moved = cc
 small_moves Return pc k fits moved = cc
+
+-- 64 bits
+full : IsWidth 64
+full = record { least = omega arith; most = omega arith }
+
+-- a copy of a register, and the stack pointer with a constant, are values that a processor makes
+copied : (from : Register) → IsBoundedValue (copy_of from)
+copied from =
+    let low : number_of from < 8 = number_below from in
+    record { op = tt; a = omega arith; b = omega arith; c = omega arith; width = full }
+
+moved : (op : Op) (constant : ℕ) → IsBoundedOp op → constant < 2 ^ 64 → IsBoundedValue (with_sp op constant)
+moved op constant known small =
+    record { op = known; a = omega arith; b = small; c = omega arith; width = full }
+
+-- so is one write to a register
+IsWrite : ℕ × Value → Type 0
+IsWrite write = IsRegister write.0 × IsBoundedValue write.1
+
+written : (register : Register) (value : Value) → IsBoundedValue value → All IsWrite ((number_of register, value) ∷ [])
+unfolding IsWrite
+written register value known =
+    let low : number_of register < 8 = number_below register in
+    All-cons IsWrite (number_of register, value) [] (omega arith, known) (All-nil IsWrite)
+
+pub bounded : laws.HasBoundedEffects sample Fits
+unfolding IsWrite
+bounded Nop pc fits small =
+    record { writes = All-nil IsWrite; wide = tt; load = tt; store = tt; flags = tt; next = tt }
+bounded (Move from to) pc fits small =
+    record { writes = written to (copy_of from) (copied from); wide = tt; load = tt; store = tt; flags = tt; next = tt }
+bounded (Push register) pc fits small =
+    let below : IsBoundedAccess below_sp =
+    record {
+      least = omega arith;
+      most = omega arith;
+      base = omega arith;
+      index = omega arith;
+      scale = inl refl;
+    } in
+    record {
+      writes = written Sp (with_sp Subtract 8) (moved Subtract 8 tt (omega arith));
+      wide = tt;
+      load = tt;
+      store = (below, copied register);
+      flags = tt;
+      next = tt;
+    }
+bounded (AddSp constant) pc fits small =
+    let low : cast_unsigned w64 constant < 2 ^ 64 = omega (arith, ints) in
+    record {
+      writes = written Sp (with_sp Add (cast_unsigned w64 constant)) (moved Add (cast_unsigned w64 constant) tt low);
+      wide = tt;
+      load = tt;
+      store = tt;
+      flags = record { first = omega arith; second = low; bits = full };
+      next = tt;
+    }
+bounded (Jump distance) pc fits small =
+    record { writes = All-nil IsWrite; wide = tt; load = tt; store = tt; flags = tt; next = omega arith }
+bounded Return pc fits small =
+    record { writes = All-nil IsWrite; wide = tt; load = tt; store = tt; flags = tt; next = tt }
+
+-- the jump and the return write nothing, and the others go on behind themselves
+pub only_goes : laws.HasOnlyGoing sample Fits
+only_goes (Jump distance) pc fits small goes = record { writes = refl; wide = refl; store = refl; flags = refl }
+only_goes Return pc fits small goes = record { writes = refl; wide = refl; store = refl; flags = refl }
+only_goes _ pc fits small goes = absurd (goes refl)
+
+-- there is no call
+pub links : laws.HasLinks sample Fits amd64.shape
+links Nop pc fits small = tt
+links _ pc fits small = tt

@@ -1,5 +1,5 @@
-//! Six instructions of amd64 as a target, small enough to read at once. It shows that the laws of
-//! `asm_target` can be met, and a function that sees a target through its laws alone.
+//! Six instructions of amd64 as a processor, small enough to read at once. It shows that the laws of
+//! `asm_target` can be met, and functions that see a processor through its laws alone.
 #![tactic(auto)]
 
 mod decode;

@@ -5,15 +5,15 @@ use crate::decode::decode;
 use crate::instr::Instr;
 use crate::make::{add_to_sp, copy, goal, going, push, writing};
 use arrayvec::ArrayVec;
-use asm_target::{Spelled, Target, begins_with};
+use asm_target::{Processor, Spelled, begins_with};
 use goasm_base::{Bytes, Memory, Text};
 use machine_effect::{Effect, Next, Shape};
 use std::alloc::Global;
 
-/// The target of the six instructions.
+/// The processor of the six instructions.
 pub struct Sample;
 
-impl Target for Sample {
+impl Processor for Sample {
     ghost use Rattle.asm_target_sample.specs.Instr.{sample, Fits};
     ghost use Rattle.asm_target.specs.Architecture.{amd64};
     ghost use Rattle.asm_target_sample.specs.Laws as proofs;
@@ -26,11 +26,15 @@ impl Target for Sample {
 
     const SHAPE: Shape = Shape { sp: 4, link: None };
 
+    const GROWTH: Option<u8> = None;
+
     ghost MACHINE = { 62 };
 
     ghost QUANTUM = { 1 };
 
     ghost SHAPE = { amd64.shape };
+
+    ghost GROWTH = { amd64.growth };
 
     ghost instructions = { sample };
 
@@ -45,6 +49,12 @@ impl Target for Sample {
     ghost no_padding = { proofs.no_padding };
 
     ghost small_moves = { proofs.small_moves };
+
+    ghost bounded = { proofs.bounded };
+
+    ghost only_goes = { proofs.only_goes };
+
+    ghost links = { proofs.links };
 
     fn spell(instr: &Instr) -> Spelled {
         let mut bytes = ArrayVec::new();

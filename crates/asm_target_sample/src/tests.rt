@@ -1,5 +1,5 @@
 use super::*;
-use asm_target::{Target, first_instr, flow_at, one_listing, same};
+use asm_target::{Processor, first_instr, flow_at, one_listing, same};
 use goasm_base::Memory;
 use machine_effect::{Next, Shape, SpMove};
 use std::alloc::Global;
@@ -12,7 +12,7 @@ const MOVE: Instr = Instr::Move {
 };
 
 // Spells, reads and shows an instruction at 0x400000, through the trait alone.
-fn expect<T: Target, R: Abort>(
+fn expect<T: Processor, R: Abort>(
     rt: &R,
     alloc: Global,
     instr: &T::Instr,

@@ -56,10 +56,10 @@ pub record IsBoundedAccess (access : Access) : Type 0 where
   pub scale : IsScale access.scale
 
 -- two atoms that are compared or combined at a width
-pub record IsBoundedPair (a b : Atom) (bits : ℕ) : Type 0 where
+pub record IsBoundedPair (a b : Atom) (width : ℕ) : Type 0 where
   pub first : IsBoundedAtom a
   pub second : IsBoundedAtom b
-  pub width : IsWidth bits
+  pub bits : IsWidth width
 
 abbrev pub IsBoundedCond : Cond → Type 0
 IsBoundedCond (cond.Equal a b width) = IsBoundedPair a b width
@@ -141,8 +141,14 @@ pub record WritesNothing (effect : Effect) : Type 0 where
 abbrev pub OnlyGoes : Effect → Type 0
 OnlyGoes effect = (effect.next ≡ next.Fall → ⊥) → WritesNothing effect
 
--- a call has a link exactly where there is a link register
+-- a call links exactly where there is a link register, though maybe through another register, as CALL X5 of riscv64 does; the
+-- stack pointer is none
+pub record IsCallLink (shape : Shape) (link : Option ℕ) : Type 0 where
+  pub some : is_some link ≡ is_some shape.link
+  pub spares : IfSome link (λ register. register ≡ shape.sp → ⊥)
+
+-- each call links so
 abbrev pub LinksBy : Shape → Next → Type 0
-LinksBy shape (next.Call goal link) = is_some link ≡ is_some shape.link
-LinksBy shape (next.CallTo goal link) = is_some link ≡ is_some shape.link
+LinksBy shape (next.Call goal link) = IsCallLink shape link
+LinksBy shape (next.CallTo goal link) = IsCallLink shape link
 LinksBy shape _ = Unit {0}

@@ -2,7 +2,7 @@ ghost use Rattle.std.specs.Prelude.{◌≡◌, ◌≤◌, length, drop, IfOk};
 ghost use Rattle.text_dis.specs.Raw.{IsRaw};
 
 use crate::line::push_line;
-use asm_target::Target;
+use asm_target::Processor;
 use goasm_base::{Bytes, Memory, Text};
 use std::alloc::Global;
 
@@ -12,7 +12,7 @@ use std::alloc::Global;
 /// bytes with two small hexadecimal digits each, and its text at the address `OFFSET`. Where they begin with none,
 /// the line is `OFFSET HEX ?`, of one quantum of bytes or of all that are left. Then the bytes behind follow. Each
 /// line ends in a newline. `Memory` comes only for want of memory.
-pub fn raw<T: Target>(alloc: Global, bytes: &[u8]) -> Result<Bytes, Memory>
+pub fn raw<T: Processor>(alloc: Global, bytes: &[u8]) -> Result<Bytes, Memory>
     ensures { IfOk result (λ text. IsRaw T.instructions T.fits T.QUANTUM 0 bytes.now text) }
 {
     let mut text = Text::new(alloc);

@@ -2,10 +2,10 @@ ghost use Rattle.std.specs.Prelude.{◌≡◌, ℕ, List, Option};
 ghost use Rattle.text_dis.specs.Raw.{IsRaw};
 ghost use Rattle.text_dis.specs.Reading.{IsReading, raw_text};
 
-use asm_target::Target;
+use asm_target::Processor;
 
 /// Bytes at a place have at most one text. So what `raw` gives is settled by the bytes.
-pub fn one_raw_text<T: Target>()
+pub fn one_raw_text<T: Processor>()
     ensures { (offset : ℕ) (bytes text other : List ℕ)
         → IsRaw T.instructions T.fits T.QUANTUM offset bytes text
         → IsRaw T.instructions T.fits T.QUANTUM offset bytes other
@@ -13,7 +13,7 @@ pub fn one_raw_text<T: Target>()
 {}
 
 /// Where a function tells which instruction bytes begin with, bytes have a text, and that is a function of them.
-pub fn raw_text_by_reading<T: Target>()
+pub fn raw_text_by_reading<T: Processor>()
     ensures some { (reading : List ℕ → Option (T.Instr × ℕ)) (bytes : List ℕ)
         → IsReading T.instructions T.fits reading
         → IsRaw T.instructions T.fits T.QUANTUM 0 bytes (raw_text T.instructions T.QUANTUM reading bytes) }

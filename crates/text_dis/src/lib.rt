@@ -1,4 +1,4 @@
-//! The text of machine code, for any target.
+//! The text of machine code, for any processor.
 #![tactic(auto)]
 
 mod code;

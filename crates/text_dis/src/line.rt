@@ -2,12 +2,12 @@ ghost use Rattle.std.specs.Prelude.{◌≡◌, ℕ, List, ◌++◌, ◌+◌, ◌
 ghost use Rattle.hex.specs.Hex.{encode_lower};
 ghost use Rattle.text_dis.specs.Raw.{IsLine, line_text};
 
-use asm_target::{Target, first_instr};
+use asm_target::{Processor, first_instr};
 use goasm_base::{Memory, Text};
 use std::alloc::Global;
 
 /// Appends the first line of bytes that stand at a place, and tells of how many bytes it is.
-pub fn push_line<T: Target>(
+pub fn push_line<T: Processor>(
     alloc: Global,
     text: &mut Text,
     offset: u64,
@@ -34,7 +34,7 @@ pub fn push_line<T: Target>(
 }
 
 // How many bytes are told in one line where they begin with no instruction.
-fn unread_len<T: Target>(bytes: &[u8]) -> usize
+fn unread_len<T: Processor>(bytes: &[u8]) -> usize
     requires { 0 < length bytes.now }
     ensures exact { result ≡ min T.QUANTUM (length bytes.now) }
     ensures some { 0 < result }

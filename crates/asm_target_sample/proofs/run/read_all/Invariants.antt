@@ -5,8 +5,8 @@ use Rattle.asm_target_sample.proofs.run.read_all.Given as goal
 
 abbrev pub invariant-loop-instr : goal.invariant-loop-instr
 invariant-loop-instr g l = record {
-  fit : All g.T.Target.fits l.code.items;
-  whole : l.bytes ≡ flat_map g.T.Target.instructions.spelling l.code.items ++ l.rest;
+  fit : All g.T.Processor.fits l.code.items;
+  whole : l.bytes ≡ flat_map g.T.Processor.instructions.spelling l.code.items ++ l.rest;
 }
 
 abbrev pub decreases-loop-instr : goal.decreases-loop-instr

@@ -6,7 +6,7 @@ abbrev pub invariant-loop-rest : goal.invariant-loop-rest
 invariant-loop-rest g l =
     record {
       within : length l.rest ≤ length l.bytes;
-      begun : Begun g.T.Target.instructions g.T.Target.fits g.T.Target.QUANTUM l.bytes l.rest l.text;
+      begun : Begun g.T.Processor.instructions g.T.Processor.fits g.T.Processor.QUANTUM l.bytes l.rest l.text;
     }
 
 abbrev pub decreases-loop-rest : goal.decreases-loop-rest

@@ -1,7 +1,7 @@
 use Rattle.text_dis.proofs.RawLemmas.{same_raw}
 use Rattle.text_dis.proofs.laws.one_raw_text.Goals as goal
 
--- by the target's laws
+-- by the processor's laws
 pub returns : goal.returns
 returns g c =
-    same_raw g.T.Target.instructions g.T.Target.fits g.T.Target.QUANTUM g.met.T.Target.lengths g.met.T.Target.prefix_free
+    same_raw g.T.Processor.instructions g.T.Processor.fits g.T.Processor.QUANTUM g.met.T.Processor.lengths g.met.T.Processor.prefix_free

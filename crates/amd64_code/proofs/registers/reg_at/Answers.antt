@@ -1,6 +1,0 @@
-use Rattle.std.proofs.Common.{sym}
-use Rattle.amd64_code.specs.RegisterLaws.{reg_back}
-use Rattle.amd64_code.proofs.registers.reg_at.Goals as goal
-
-pub returns : goal.returns
-returns c = sym (rw (c.joined.ensures.high, c.joined.ensures.low) at (reg_back c.joined.result))
