@@ -58,7 +58,7 @@ use Rattle.amd64_table.specs.Moves.{tls_word, reg_rm_effect, mem_reg_effect, sto
 use Rattle.amd64_table.specs.Computation.{result_of, flags_of, arithmetic_effect, compare_const_effect, unary_value, unary_flags, unary_effect, mul_div_effect, rm_reg_value, rm_reg_effect, shift_effect, exchange_effect, compare_exchange, exchange_add, atomic_effect, set_cc_effect, swap_bytes_effect, xor_wide_effect}
 use Rattle.amd64_table.specs.Control.{stack_effect, short_effect, near_effect, indirect_effect, plain_effect}
 use Rattle.amd64_table.specs.Effects.{effect_at}
-use Rattle.amd64_table.specs.StackMoves.{written, written_rm, moved, moved_reg, moved_rm, reg_rm_move, mem_reg_move, stack_move, atomic_move, move_of}
+use Rattle.amd64_table.specs.Flows.{written, written_rm, moved, moved_reg, moved_rm, reg_rm_move, mem_reg_move, stack_move, atomic_move, move_of}
 
 -- a register is written with a value that isn't a sum or a difference of the stack pointer and a constant
 one_written : (reg : Reg) (value : Value) (load : Option Access) (store : Option (Access × Value)) (flags : FlagRule)

@@ -9,4 +9,7 @@ pub mod Control
 pub mod Effects
 pub mod Mnemonics
 pub mod Texts
-pub mod StackMoves
+pub mod Flows
+pub mod FlagTable
+pub mod StepLaws
+pub mod Runs

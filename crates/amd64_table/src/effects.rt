@@ -4,7 +4,7 @@ ghost use Rattle.machine_effect.specs.Flow.{flow_of};
 ghost use Rattle.machine_effect.specs.Shapes.{amd64_shape, IsStackDistance};
 ghost use Rattle.amd64_table.specs.Effects as effects;
 ghost use Rattle.amd64_table.specs.Fits.{fits};
-ghost use Rattle.amd64_table.specs.StackMoves.{move_of};
+ghost use Rattle.amd64_table.specs.Flows.{move_of};
 
 use crate::computation::{
     arithmetic_effect, atomic_effect, compare_const_effect, exchange_effect, mul_div_effect,

@@ -19,6 +19,7 @@ mod control;
 mod effects;
 mod forms;
 mod instr;
+mod laws;
 mod listed;
 mod memory;
 mod mnemonic;

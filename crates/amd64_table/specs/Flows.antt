@@ -1,7 +1,11 @@
--- What each instruction does to the stack pointer, as its effect's form tells.
-use Rattle.std.specs.Prelude.{ℤ, pos, negsuc, ◌-ℤ◌}
+-- What each instruction does to the stack pointer, as its effect's form tells, and where the machine goes on.
+use Rattle.std.specs.Prelude.{ℕ, ℤ, pos, negsuc, ◌-ℤ◌, Option, Some, None}
 use Rattle.machine_effect.specs.declared.flow.SpMove.{SpMove}
 use Rattle.machine_effect.specs.declared.flow.SpMove.TheVariants.{Keep, By, Other}
+use Rattle.machine_effect.specs.declared.next.Next.{Next}
+use Rattle.machine_effect.specs.declared.next.Next.TheVariants as next
+use Rattle.machine_effect.specs.Numbers.{moved_by}
+use Rattle.amd64_table.specs.declared.condition.Cc.{Cc}
 use Rattle.amd64_table.specs.declared.reg.Reg.{Reg}
 use Rattle.amd64_table.specs.declared.reg.Reg.TheVariants.{Sp}
 use Rattle.amd64_table.specs.declared.width.Width.{Width}
@@ -18,8 +22,16 @@ use Rattle.amd64_table.specs.declared.op.Stack.{Stack}
 use Rattle.amd64_table.specs.declared.op.Stack.TheVariants as stack
 use Rattle.amd64_table.specs.declared.op.Atomic.{Atomic}
 use Rattle.amd64_table.specs.declared.op.Atomic.TheVariants as atomic
+use Rattle.amd64_table.specs.declared.op.Near.{Near}
+use Rattle.amd64_table.specs.declared.op.Near.TheVariants as near
+use Rattle.amd64_table.specs.declared.op.Indirect.{Indirect}
+use Rattle.amd64_table.specs.declared.op.Indirect.TheVariants as indirect
+use Rattle.amd64_table.specs.declared.op.Plain.{Plain}
+use Rattle.amd64_table.specs.declared.op.Plain.TheVariants as plain
 use Rattle.amd64_table.specs.declared.instr.Instr.{Instr}
 use Rattle.amd64_table.specs.declared.instr.Instr.TheVariants as instr
+use Rattle.amd64_table.specs.Conditions.{cond_of}
+use Rattle.amd64_table.specs.Operands.{rm_atom}
 
 -- a register is written in a way that moves no stack
 abbrev pub written : Reg → SpMove
@@ -85,3 +97,30 @@ move_of (instr.MoveCc code width from to) = written to
 move_of (instr.SwapBytes width reg) = written reg
 move_of (instr.LoadTls to) = written to
 move_of _ = Keep
+
+abbrev pub short_next : Option Cc → ℕ → Next
+short_next None goal = next.Jump goal
+short_next (Some code) goal = next.Branch (cond_of code) goal
+
+abbrev pub near_next : Near → ℕ → Next
+near_next near.Jmp goal = next.Jump goal
+near_next near.Call goal = next.Call goal None
+near_next (near.If code) goal = next.Branch (cond_of code) goal
+
+abbrev pub indirect_next : Indirect → Rm → Next
+indirect_next indirect.Jmp rm = next.JumpTo (rm_atom rm)
+indirect_next indirect.Call rm = next.CallTo (rm_atom rm) None
+
+abbrev pub plain_next : Plain → Next
+plain_next plain.Ret = next.Return
+plain_next plain.Syscall = next.System
+plain_next plain.Undef = next.Stop
+plain_next _ = next.Fall
+
+-- where the machine goes on after an instruction that ends at `end`: all but branches, RET, SYSCALL and UNDEF fall through
+unfoldable pub next_of : Instr → ℕ → Next
+next_of (instr.Short code distance) end = short_next code (moved_by end distance)
+next_of (instr.Near op distance) end = near_next op (moved_by end distance)
+next_of (instr.Indirect op rm) end = indirect_next op rm
+next_of (instr.Plain op) end = plain_next op
+next_of _ end = next.Fall
