@@ -1,0 +1,12 @@
+pub mod RegisterLaws
+pub mod ConstantLaws
+pub mod HeadLaws
+pub mod ModRmLaws
+pub mod RowLaws
+pub mod MoveLaws
+pub mod ComputationLaws
+pub mod ControlLaws
+pub mod Laws
+pub mod LengthLaws
+pub mod PaddingLaws
+pub mod FirstLaws

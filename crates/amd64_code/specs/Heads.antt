@@ -1,6 +1,5 @@
 -- What stands before ModRM: LOCK, a prefix, REX, the opcode (Intel 64 manual, volume 2, "Instruction Format").
 use Rattle.std.specs.Prelude.{ℕ, Bool, false, List, [], ◌∷◌, ◌++◌, ◌+◌, ◌*◌, ◌/◌, ◌%◌, ◌==◌, ◌||◌, drop, slice_index, if◌then◌else◌}
-use Rattle.amd64_table.specs.Lengths.{one_if}
 use Rattle.amd64_code.specs.declared.rex.Rex.{Rex}
 use Rattle.amd64_code.specs.declared.head.Legacy.{Legacy}
 use Rattle.amd64_code.specs.declared.head.Legacy.TheVariants.{Absent, OperandSize, Repeat, Fs}
@@ -16,6 +15,9 @@ legacy_bytes Absent = []
 legacy_bytes OperandSize = 0x66 ∷ []
 legacy_bytes Repeat = 0xf3 ∷ []
 legacy_bytes Fs = 0x64 ∷ []
+
+abbrev pub one_if : Bool → ℕ
+one_if test = if test then 1 else 0
 
 abbrev pub rex_byte : Rex → ℕ
 rex_byte rex = 0x40 + 8 * one_if rex.w + 4 * one_if rex.r + 2 * one_if rex.x + one_if rex.b

@@ -1,12 +1,14 @@
 -- The instruction whose fields bytes have, whether or not they are its spelling. A spelling has the fields of its instruction, so
 -- what is left to a reader is to compare.
-use Rattle.std.specs.Prelude.{ℕ, ℤ, Bool, List, ◌/◌, ◌%◌, ◌==◌, drop, slice_index, nat_lt, Some, None, if◌then◌else◌}
+use Rattle.std.specs.Prelude.{ℕ, ℤ, Bool, List, pos, ◌/◌, ◌%◌, ◌==◌, drop, slice_index, nat_lt, Some, None, if◌then◌else◌}
 use Rattle.amd64_table.specs.declared.reg.Reg.{Reg}
 use Rattle.amd64_table.specs.declared.xmm.Xmm.{Xmm}
-use Rattle.amd64_table.specs.declared.operand.Width.{Width}
-use Rattle.amd64_table.specs.declared.operand.Width.TheVariants.{Q, L}
-use Rattle.amd64_table.specs.declared.operand.Mem.{Mem}
-use Rattle.amd64_table.specs.declared.operand.Rm.{Rm}
+use Rattle.amd64_table.specs.declared.width.Width.{Width}
+use Rattle.amd64_table.specs.declared.width.Width.TheVariants.{Q, L}
+use Rattle.amd64_table.specs.declared.memory.Mem.{Mem}
+use Rattle.amd64_table.specs.declared.memory.Mem.TheVariants as memory
+use Rattle.amd64_table.specs.declared.memory.Rm.{Rm}
+use Rattle.amd64_table.specs.declared.memory.Rm.TheVariants as operand
 use Rattle.amd64_table.specs.declared.op.Extend.TheVariants as extend
 use Rattle.amd64_table.specs.declared.op.RegRm.TheVariants as reg_rm
 use Rattle.amd64_table.specs.declared.op.MemReg.{MemReg}
@@ -29,7 +31,7 @@ use Rattle.amd64_code.specs.declared.head.Opcode.TheVariants.{One, Two}
 use Rattle.amd64_code.specs.Constants.{byte_in, unsigned_in, long_in, quad_in}
 use Rattle.amd64_code.specs.Registers.{reg_at, xmm_at, cc_at}
 use Rattle.amd64_code.specs.Heads as heads
-use Rattle.amd64_code.specs.Places.{field_in, low_in, mem_in, rm_in, place_size}
+use Rattle.amd64_code.specs.ModRm.{field_in, low_in, rm_in, operand_size}
 use Rattle.amd64_code.specs.Opcodes.{arithmetic_at, mul_div_at, shift_at}
 
 -- the fields behind an opcode, by the bits of REX
@@ -39,10 +41,6 @@ width_in rex = if rex.w then Q else L
 
 abbrev pub reg_in : Rex → List ℕ → Reg
 reg_in rex tail = reg_at rex.r (field_in tail)
-
--- the register of ModRM's field rm
-abbrev pub low_reg_in : Rex → List ℕ → Reg
-low_reg_in rex tail = reg_at rex.b (low_in tail)
 
 -- the register whose low bits stand in the opcode
 abbrev pub opcode_reg : Rex → ℕ → Reg
@@ -57,12 +55,17 @@ low_xmm_in rex tail = xmm_at rex.b (low_in tail)
 abbrev pub operand_in : Rex → List ℕ → Rm
 operand_in rex tail = rm_in rex.x rex.b tail
 
+-- a register is no place in memory; what is made of one has another spelling
+abbrev pub memory_of : Rm → Mem
+memory_of (operand.Mem place) = place
+memory_of (operand.Reg reg) = memory.Base reg (pos 0)
+
 abbrev pub memory_in : Rex → List ℕ → Mem
-memory_in rex tail = mem_in rex.x rex.b tail
+memory_in rex tail = memory_of (operand_in rex tail)
 
 -- what is behind ModRM, SIB and displacement
-abbrev pub behind_place : List ℕ → List ℕ
-behind_place tail = drop (place_size tail) tail
+abbrev pub behind_operand : List ℕ → List ℕ
+behind_operand tail = drop (operand_size tail) tail
 
 -- the instructions of one byte, by the high digit of the opcode
 
@@ -81,10 +84,10 @@ stack_row rex opcode = if opcode / 8 == 10 then instr.Stack stack.Push (opcode_r
     else instr.Stack stack.Pop (opcode_reg rex opcode)
 
 -- 81 and 83
-unfoldable pub constant_group : Bool → Rex → ℤ → List ℕ → Instr
-constant_group lock rex constant tail =
-    if field_in tail == 7 then instr.CompareConst (width_in rex) (operand_in rex tail) constant
-    else instr.ArithmeticConst (arithmetic_at (field_in tail)) lock (width_in rex) constant (operand_in rex tail)
+unfoldable pub constant_group : Bool → Width → ℕ → Rm → ℤ → Instr
+constant_group lock width digit rm constant =
+    if digit == 7 then instr.CompareConst width rm constant
+    else instr.ArithmeticConst (arithmetic_at digit) lock width constant rm
 
 -- 89
 unfoldable pub copy_or_store : Legacy → Rex → List ℕ → Instr
@@ -98,8 +101,8 @@ load _ rex tail = instr.MemReg mem_reg.Mov (width_in rex) (memory_in rex tail) (
 
 unfoldable pub row_8 : Bool → Legacy → Rex → ℕ → List ℕ → Instr
 row_8 lock legacy rex opcode tail =
-    if opcode == 0x81 then constant_group lock rex (long_in (behind_place tail)) tail
-    else (if opcode == 0x83 then constant_group lock rex (byte_in (behind_place tail)) tail
+    if opcode == 0x81 then constant_group lock (width_in rex) (field_in tail) (operand_in rex tail) (long_in (behind_operand tail))
+    else (if opcode == 0x83 then constant_group lock (width_in rex) (field_in tail) (operand_in rex tail) (byte_in (behind_operand tail))
     else (if opcode == 0x85 then instr.RegRm reg_rm.Test (width_in rex) (reg_in rex tail) (operand_in rex tail)
     else (if opcode == 0x87 then instr.Exchange (width_in rex) (reg_in rex tail) (memory_in rex tail)
     else (if opcode == 0x88 then instr.StoreLow size.Byte (reg_in rex tail) (memory_in rex tail)
@@ -118,18 +121,17 @@ row_b rex opcode tail =
     else instr.LoadLong (unsigned_in tail) (opcode_reg rex opcode)
 
 -- C7
-unfoldable pub constant_copy : Rex → List ℕ → Instr
-constant_copy rex tail =
-    if slice_index tail 0 / 64 == 3 then instr.LoadQuad (long_in (behind_place tail)) (low_reg_in rex tail)
-    else instr.StoreConst (width_in rex) (long_in (behind_place tail)) (memory_in rex tail)
+unfoldable pub constant_copy : Width → Rm → ℤ → Instr
+constant_copy width (operand.Reg to) constant = instr.LoadQuad constant to
+constant_copy width (operand.Mem to) constant = instr.StoreConst width constant to
 
 unfoldable pub row_c : Rex → ℕ → List ℕ → Instr
 row_c rex opcode tail =
     if opcode == 0xc1 then instr.ShiftConst (shift_at (field_in tail)) (width_in rex)
-    (slice_index (behind_place tail) 0) (operand_in rex tail)
+    (slice_index (behind_operand tail) 0) (operand_in rex tail)
     else (if opcode == 0xc3 then instr.Plain plain.Ret
-    else (if opcode == 0xc6 then instr.StoreByte (byte_in (behind_place tail)) (memory_in rex tail)
-    else constant_copy rex tail))
+    else (if opcode == 0xc6 then instr.StoreByte (byte_in (behind_operand tail)) (memory_in rex tail)
+    else constant_copy (width_in rex) (operand_in rex tail) (long_in (behind_operand tail))))
 
 unfoldable pub row_e : ℕ → List ℕ → Instr
 row_e opcode tail =
@@ -138,22 +140,23 @@ row_e opcode tail =
     else instr.Short None (byte_in tail))
 
 -- F7
-unfoldable pub unary_group : Bool → Rex → List ℕ → Instr
-unary_group lock rex tail =
-    if field_in tail == 2 then instr.Unary unary.Not lock (width_in rex) (operand_in rex tail)
-    else (if field_in tail == 3 then instr.Unary unary.Neg lock (width_in rex) (operand_in rex tail)
-    else instr.MulDiv (mul_div_at (field_in tail)) (width_in rex) (operand_in rex tail))
+unfoldable pub unary_group : Bool → Width → ℕ → Rm → Instr
+unary_group lock width digit rm =
+    if digit == 2 then instr.Unary unary.Not lock width rm
+    else (if digit == 3 then instr.Unary unary.Neg lock width rm
+    else instr.MulDiv (mul_div_at digit) width rm)
 
 -- FF
-unfoldable pub step_group : Bool → Rex → List ℕ → Instr
-step_group lock rex tail =
-    if field_in tail == 0 then instr.Unary unary.Inc lock (width_in rex) (operand_in rex tail)
-    else (if field_in tail == 1 then instr.Unary unary.Dec lock (width_in rex) (operand_in rex tail)
-    else (if field_in tail == 2 then instr.Indirect indirect.Call (operand_in rex tail)
-    else instr.Indirect indirect.Jmp (operand_in rex tail)))
+unfoldable pub step_group : Bool → Width → ℕ → Rm → Instr
+step_group lock width digit rm =
+    if digit == 0 then instr.Unary unary.Inc lock width rm
+    else (if digit == 1 then instr.Unary unary.Dec lock width rm
+    else (if digit == 2 then instr.Indirect indirect.Call rm else instr.Indirect indirect.Jmp rm))
 
 unfoldable pub row_f : Bool → Rex → ℕ → List ℕ → Instr
-row_f lock rex opcode tail = if opcode == 0xf7 then unary_group lock rex tail else step_group lock rex tail
+row_f lock rex opcode tail =
+    if opcode == 0xf7 then unary_group lock (width_in rex) (field_in tail) (operand_in rex tail)
+    else step_group lock (width_in rex) (field_in tail) (operand_in rex tail)
 
 unfoldable pub one_byte : Bool → Legacy → Rex → ℕ → List ℕ → Instr
 one_byte lock legacy rex opcode tail =

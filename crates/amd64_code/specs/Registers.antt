@@ -4,8 +4,8 @@ use Rattle.amd64_table.specs.declared.reg.Reg.{Reg}
 use Rattle.amd64_table.specs.declared.reg.Reg.TheVariants.{Ax, Cx, Dx, Bx, Sp, Bp, Si, Di, R8, R9, R10, R11, R12, R13, R14, R15}
 use Rattle.amd64_table.specs.declared.xmm.Xmm.{Xmm}
 use Rattle.amd64_table.specs.declared.xmm.Xmm.TheVariants.{X0, X1, X2, X3, X4, X5, X6, X7, X8, X9, X10, X11, X12, X13, X14, X15}
-use Rattle.amd64_table.specs.declared.code.Cc.{Cc}
-use Rattle.amd64_table.specs.declared.code.Cc.TheVariants.{Over, NotOver, Carry, NotCarry, Zero, NotZero, CarryOrZero, NeitherCarryNorZero, Negative, NotNegative, ParityEven, ParityOdd, Less, GreaterOrEqual, LessOrEqual, Greater}
+use Rattle.amd64_table.specs.declared.condition.Cc.{Cc}
+use Rattle.amd64_table.specs.declared.condition.Cc.TheVariants.{Over, NotOver, Carry, NotCarry, Zero, NotZero, CarryOrZero, NeitherCarryNorZero, Negative, NotNegative, ParityEven, ParityOdd, Less, GreaterOrEqual, LessOrEqual, Greater}
 
 -- one of two, by a bit
 abbrev pub pick : {X : Type 0} → Bool → X → X → X

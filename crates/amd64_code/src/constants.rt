@@ -1,6 +1,6 @@
 //! Constants and displacements, written and read: signed, lowest byte first. A reader sees 0 past the end of its bytes: whether a
 //! spelling stands there is asked when the bytes are compared.
-ghost use Rattle.std.specs.Prelude.{◌≡◌, ◌≤◌, ◌<◌, ◌+◌, ◌++◌, ◌∷◌, [], length, drop, slice_index};
+ghost use Rattle.std.specs.Prelude.{◌≡◌, ◌≤◌, ◌<◌, ◌+◌, ◌++◌, ◌∷◌, [], length, slice_index};
 ghost use Rattle.arrayvec.specs.ArrayVec.{array_vec_len};
 ghost use Rattle.std.specs.Int.{w32, to_le_bytes};
 ghost use Rattle.machine_effect.specs.Numbers.{fits as fits_bits};
@@ -15,17 +15,6 @@ pub fn byte_at(bytes: &[u8], place: usize) -> u8
     match bytes.get(place) {
         Some(byte) => *byte,
         None => 0,
-    }
-}
-
-/// What is behind this many bytes: nothing where there are fewer.
-pub fn behind(bytes: &[u8], count: usize) -> &[u8]
-    ensures { result.now ≡ drop count bytes.now }
-{
-    if count <= bytes.len() {
-        &bytes[count..]
-    } else {
-        &bytes[bytes.len()..]
     }
 }
 

@@ -1,13 +1,13 @@
 ghost use Rattle.std.specs.Prelude.{◌≡◌, ◌<◌};
 ghost use Rattle.amd64_code.specs.Reading as spec;
-ghost use Rattle.amd64_code.specs.Places.{field_in};
+ghost use Rattle.amd64_code.specs.ModRm.{field_in};
 
-use crate::constants::behind;
 use crate::head::Legacy;
-use crate::place::{field_in, low_in, mem_in, place_size, rm_in};
+use crate::modrm::{field_in, low_in, operand_size, rm_in};
 use crate::registers::{reg_at, xmm_at};
 use crate::rex::Rex;
 use amd64_table::{Mem, Reg, Rm, Width, Xmm};
+use goasm_base::behind_or_empty;
 
 /// What stands around an opcode: the prefixes before it, and the bytes behind it.
 #[derive(Clone, Copy)]
@@ -42,13 +42,6 @@ impl Fields<'_> {
         reg_at(self.rex.r, field_in(self.tail))
     }
 
-    /// The register of ModRM's field rm.
-    pub fn low_reg(&self) -> Reg
-        ensures { result ≡ spec.low_reg_in self.now.rex self.now.tail.now }
-    {
-        reg_at(self.rex.b, low_in(self.tail))
-    }
-
     /// The register whose low bits stand in the opcode.
     pub fn opcode_reg(&self, opcode: u8) -> Reg
         ensures { result ≡ spec.opcode_reg self.now.rex opcode }
@@ -77,17 +70,20 @@ impl Fields<'_> {
         rm_in(self.rex.x, self.rex.b, self.tail)
     }
 
-    /// The memory of ModRM.
+    /// The memory of ModRM. A register is none: what is made of one has another spelling.
     pub fn mem(&self) -> Mem
         ensures { result ≡ spec.memory_in self.now.rex self.now.tail.now }
     {
-        mem_in(self.rex.x, self.rex.b, self.tail)
+        match self.rm() {
+            Rm::Mem(mem) => mem,
+            Rm::Reg(base) => Mem::Base { base, disp: 0 },
+        }
     }
 
     /// What is behind ModRM, SIB and displacement.
     pub fn constant(&self) -> &[u8]
-        ensures { result.now ≡ spec.behind_place self.now.tail.now }
+        ensures { result.now ≡ spec.behind_operand self.now.tail.now }
     {
-        behind(self.tail, place_size(self.tail))
+        behind_or_empty(self.tail, operand_size(self.tail))
     }
 }

@@ -1,9 +1,12 @@
 ghost use Rattle.std.specs.Prelude.{◌≡◌, ◌≤◌, ◌<◌, ◌+◌, ◌++◌, length};
 ghost use Rattle.arrayvec.specs.ArrayVec.{array_vec_len};
 ghost use Rattle.amd64_code.specs.Heads as heads;
+ghost use Rattle.amd64_code.specs.ModRm.{rm_bytes};
 ghost use Rattle.amd64_code.specs.Spelling as spec;
 
+use crate::modrm::push_rm;
 use crate::rex::Rex;
+use amd64_table::Rm;
 use arrayvec::ArrayVec;
 use asm_target::Spelled;
 
@@ -95,6 +98,17 @@ impl Head {
         push_legacy(&mut bytes, self.legacy);
         push_rex(&mut bytes, self.bare, self.rex);
         push_opcode(&mut bytes, self.opcode);
+        bytes
+    }
+
+    /// The bytes, and behind them a register or memory, with this in ModRM's field reg.
+    pub fn with_rm(&self, field: u8, rm: Rm) -> Spelled
+        requires { field < 8 }
+        ensures bytes { result.items ≡ heads.head_bytes self.now ++ rm_bytes field rm }
+        ensures most { array_vec_len result ≤ 11 }
+    {
+        let mut bytes = self.bytes();
+        push_rm(&mut bytes, field, rm);
         bytes
     }
 }

@@ -3,6 +3,9 @@
 //! A spelling has LOCK, a prefix, REX, the opcode, ModRM, SIB, a displacement and a constant, each only where it
 //! is needed. The public source is the Intel 64 and IA-32 Architectures Software Developer's Manual, volume 2,
 //! "Instruction Format" and the opcode maps.
+//!
+//! `spell` has a function for each shape of instruction, in the modules `moves`, `computation` and `control`, cut as those
+//! of `amd64_table`; `read` has a function for each row of the opcode maps that has several instructions.
 #![tactic(auto)]
 
 mod computation;
@@ -11,11 +14,10 @@ mod control;
 mod decode;
 mod fields;
 mod head;
+mod modrm;
 mod moves;
 mod one_byte;
 mod opcodes;
-mod parts;
-mod place;
 mod prefixes;
 mod reader;
 mod registers;
@@ -24,9 +26,4 @@ mod spelling;
 mod two_bytes;
 
 pub use reader::read;
-pub use spelling::spell;
-
-#[cfg(test)]
-mod shape_tests;
-#[cfg(test)]
-mod tests;
+pub use spelling::{end_of, spell};

@@ -1,55 +1,78 @@
 //! Spellings of what copies: loads, stores, extensions, constants and addresses, a function for each shape.
+#![tactic(auto, unfolding(crate::specs::Spelling::spelling_of))]
+
 ghost use Rattle.std.specs.Prelude.{◌≡◌};
 ghost use Rattle.amd64_table.specs.declared.instr.Instr.TheVariants as instr;
+ghost use Rattle.amd64_code.specs.Spelling as spec;
 ghost use Rattle.amd64_code.specs.Spelling.{spelling_of};
 
 use crate::constants::{push_all, push_byte, push_long, push_quad, push_unsigned};
 use crate::head::{Head, Legacy, Opcode};
+use crate::modrm::fields;
 use crate::opcodes::{mem_reg_opcode, reg_rm_opcode};
-use crate::parts::{extend_head, is_quad, store_low_head, with_mem, with_rm};
-use crate::place::fields;
-use crate::rex::Rex;
+use crate::rex::{Rex, is_byte_operand};
 use amd64_table::{Cc, Extend, Mem, MemReg, Reg, RegRm, Rm, StoreSize, Width, Xmm};
 use asm_target::Spelled;
 
 /// `MOVQ reg, rm` (89 /r), `CMPQ rm, reg` (39 /r), `TESTQ reg, rm` (85 /r).
-#[tactic(auto, unfolding(crate::specs::Spelling::spelling_of))]
 pub fn reg_rm(op: RegRm, width: Width, reg: Reg, rm: Rm) -> Spelled
     ensures { result.items ≡ spelling_of (instr.RegRm op width reg rm) }
 {
-    let rex = Rex::of(is_quad(width), reg.is_high(), rm);
+    let rex = Rex::of(width.is_quad(), reg.is_high(), rm);
     let head = Head::plain(rex, Opcode::One(reg_rm_opcode(op)));
-    with_rm(head, reg.low(), rm)
+    head.with_rm(reg.low(), rm)
 }
 
 /// `MOVQ mem, reg` (8B /r), `CMPQ reg, mem` (3B /r), `ADDQ mem, reg` (03 /r, and 8 more for each further operation).
-#[tactic(auto, unfolding(crate::specs::Spelling::spelling_of))]
 pub fn mem_reg(op: MemReg, width: Width, mem: Mem, reg: Reg) -> Spelled
     ensures { result.items ≡ spelling_of (instr.MemReg op width mem reg) }
 {
-    let rex = Rex::of_mem(is_quad(width), reg.is_high(), mem);
+    let rex = Rex::of(width.is_quad(), reg.is_high(), Rm::Mem(mem));
     let head = Head::plain(rex, Opcode::One(mem_reg_opcode(op)));
-    with_mem(head, reg.low(), mem)
+    head.with_rm(reg.low(), Rm::Mem(mem))
 }
 
 /// `MOVB from, to` (88 /r), `MOVW from, to` (66 89 /r).
-#[tactic(auto, unfolding(crate::specs::Spelling::spelling_of))]
 pub fn store_low(size: StoreSize, from: Reg, to: Mem) -> Spelled
     ensures { result.items ≡ spelling_of (instr.StoreLow size from to) }
 {
-    with_mem(store_low_head(size, from, to), from.low(), to)
+    store_low_head(size, from, to).with_rm(from.low(), Rm::Mem(to))
+}
+
+#[tactic(auto, unfolding(crate::specs::Spelling::store_low_head))]
+fn store_low_head(size: StoreSize, from: Reg, to: Mem) -> Head
+    ensures { result ≡ spec.store_low_head size from to }
+{
+    let rex = Rex::of(false, from.is_high(), Rm::Mem(to));
+    match size {
+        StoreSize::Byte => Head::byte(from.is_byte_high(), rex, Opcode::One(0x88)),
+        StoreSize::Word => Head::prefixed(Legacy::OperandSize, rex, Opcode::One(0x89)),
+    }
 }
 
 /// MOVBLZX (0F B6 /r), MOVWLZX (0F B7 /r), MOVBQSX (W 0F BE /r), MOVWQSX (W 0F BF /r), MOVLQSX (W 63 /r).
-#[tactic(auto, unfolding(crate::specs::Spelling::spelling_of))]
 pub fn extend(op: Extend, from: Rm, to: Reg) -> Spelled
     ensures { result.items ≡ spelling_of (instr.Extend op from to) }
 {
-    with_rm(extend_head(op, from, to), to.low(), from)
+    extend_head(op, from, to).with_rm(to.low(), from)
+}
+
+#[tactic(auto, unfolding(crate::specs::Spelling::extend_head))]
+fn extend_head(op: Extend, from: Rm, to: Reg) -> Head
+    ensures { result ≡ spec.extend_head op from to }
+{
+    let long = Rex::of(false, to.is_high(), from);
+    let quad = Rex::of(true, to.is_high(), from);
+    match op {
+        Extend::ByteZero => Head::byte(is_byte_operand(from), long, Opcode::Two(0xb6)),
+        Extend::WordZero => Head::plain(long, Opcode::Two(0xb7)),
+        Extend::ByteSign => Head::plain(quad, Opcode::Two(0xbe)),
+        Extend::WordSign => Head::plain(quad, Opcode::Two(0xbf)),
+        Extend::LongSign => Head::plain(quad, Opcode::One(0x63)),
+    }
 }
 
 /// `MOVL $constant, to` (B8 plus the register, four bytes).
-#[tactic(auto, unfolding(crate::specs::Spelling::spelling_of))]
 pub fn load_long(constant: u32, to: Reg) -> Spelled
     ensures { result.items ≡ spelling_of (instr.LoadLong constant to) }
 {
@@ -64,15 +87,15 @@ pub fn load_long(constant: u32, to: Reg) -> Spelled
 pub fn load_quad(constant: i64, to: Reg) -> Spelled
     ensures { result.items ≡ spelling_of (instr.LoadQuad constant to) }
 {
-    let rex = Rex::of_low(true, to.is_high());
     match i32::try_from(constant) {
         Ok(long) => {
-            let mut bytes = Head::plain(rex, Opcode::One(0xc7)).bytes();
-            bytes.push(fields(3, 0, to.low()));
+            let rex = Rex::of(true, false, Rm::Reg(to));
+            let mut bytes = Head::plain(rex, Opcode::One(0xc7)).with_rm(0, Rm::Reg(to));
             push_long(&mut bytes, long);
             bytes
         }
         Err(_) => {
+            let rex = Rex::of_low(true, to.is_high());
             let mut bytes = Head::plain(rex, Opcode::One(0xb8 + to.low())).bytes();
             push_quad(&mut bytes, constant);
             bytes
@@ -81,68 +104,61 @@ pub fn load_quad(constant: i64, to: Reg) -> Spelled
 }
 
 /// `MOVQ $constant, to` in memory (C7 /0, four bytes).
-#[tactic(auto, unfolding(crate::specs::Spelling::spelling_of))]
 pub fn store_const(width: Width, constant: i32, to: Mem) -> Spelled
     ensures { result.items ≡ spelling_of (instr.StoreConst width constant to) }
 {
-    let rex = Rex::of_mem(is_quad(width), false, to);
-    let mut bytes = with_mem(Head::plain(rex, Opcode::One(0xc7)), 0, to);
+    let rex = Rex::of(width.is_quad(), false, Rm::Mem(to));
+    let mut bytes = Head::plain(rex, Opcode::One(0xc7)).with_rm(0, Rm::Mem(to));
     push_long(&mut bytes, constant);
     bytes
 }
 
 /// `MOVB $constant, to` in memory (C6 /0, one byte).
-#[tactic(auto, unfolding(crate::specs::Spelling::spelling_of))]
 pub fn store_byte(constant: i8, to: Mem) -> Spelled
     ensures { result.items ≡ spelling_of (instr.StoreByte constant to) }
 {
-    let rex = Rex::of_mem(false, false, to);
-    let mut bytes = with_mem(Head::plain(rex, Opcode::One(0xc6)), 0, to);
+    let rex = Rex::of(false, false, Rm::Mem(to));
+    let mut bytes = Head::plain(rex, Opcode::One(0xc6)).with_rm(0, Rm::Mem(to));
     push_byte(&mut bytes, constant);
     bytes
 }
 
 /// `LEAQ from, to` (W 8D /r).
-#[tactic(auto, unfolding(crate::specs::Spelling::spelling_of))]
 pub fn lea(from: Mem, to: Reg) -> Spelled
     ensures { result.items ≡ spelling_of (instr.Lea from to) }
 {
-    let rex = Rex::of_mem(true, to.is_high(), from);
-    with_mem(Head::plain(rex, Opcode::One(0x8d)), to.low(), from)
+    let rex = Rex::of(true, to.is_high(), Rm::Mem(from));
+    Head::plain(rex, Opcode::One(0x8d)).with_rm(to.low(), Rm::Mem(from))
 }
 
 /// `CMOVQEQ from, to` (0F 40 plus the condition, /r).
-#[tactic(auto, unfolding(crate::specs::Spelling::spelling_of))]
 pub fn move_cc(code: Cc, width: Width, from: Rm, to: Reg) -> Spelled
     ensures { result.items ≡ spelling_of (instr.MoveCc code width from to) }
 {
-    let rex = Rex::of(is_quad(width), to.is_high(), from);
+    let rex = Rex::of(width.is_quad(), to.is_high(), from);
     let opcode = Opcode::Two(0x40 + code.number());
-    with_rm(Head::plain(rex, opcode), to.low(), from)
+    Head::plain(rex, opcode).with_rm(to.low(), from)
 }
 
 /// `MOVOU from, to` (F3 0F 6F /r).
-#[tactic(auto, unfolding(crate::specs::Spelling::spelling_of))]
 pub fn load_wide(from: Mem, to: Xmm) -> Spelled
     ensures { result.items ≡ spelling_of (instr.LoadWide from to) }
 {
-    let rex = Rex::of_mem(false, to.is_high(), from);
+    let rex = Rex::of(false, to.is_high(), Rm::Mem(from));
     let head = Head::prefixed(Legacy::Repeat, rex, Opcode::Two(0x6f));
-    with_mem(head, to.low(), from)
+    head.with_rm(to.low(), Rm::Mem(from))
 }
 
 /// `MOVOU from, to` (F3 0F 7F /r).
-#[tactic(auto, unfolding(crate::specs::Spelling::spelling_of))]
 pub fn store_wide(from: Xmm, to: Mem) -> Spelled
     ensures { result.items ≡ spelling_of (instr.StoreWide from to) }
 {
-    let rex = Rex::of_mem(false, from.is_high(), to);
+    let rex = Rex::of(false, from.is_high(), Rm::Mem(to));
     let head = Head::prefixed(Legacy::Repeat, rex, Opcode::Two(0x7f));
-    with_mem(head, from.low(), to)
+    head.with_rm(from.low(), Rm::Mem(to))
 }
 
 /// `MOVQ (TLS), to` (64 W 8B /r): the address -8 alone, which ModRM and SIB 25 give, in the segment FS.
-#[tactic(auto, unfolding(crate::specs::Spelling::spelling_of))]
 pub fn load_tls(to: Reg) -> Spelled
     ensures { result.items ≡ spelling_of (instr.LoadTls to) }
 {

@@ -1,5 +1,6 @@
 //! The instructions whose opcode is one byte, a function for each row of the manual's opcode map that has several.
 ghost use Rattle.std.specs.Prelude.{◌≡◌};
+ghost use Rattle.amd64_code.specs.ModRm.{field_in};
 ghost use Rattle.amd64_code.specs.Reading as spec;
 ghost use Rattle.amd64_table.specs.declared.instr.Instr.TheVariants as instr;
 
@@ -8,7 +9,9 @@ use crate::fields::Fields;
 use crate::head::Legacy;
 use crate::opcodes::{arithmetic_at, mul_div_at, shift_at};
 use crate::registers::cc_at;
-use amd64_table::{Extend, Indirect, Instr, MemReg, Near, Plain, RegRm, Stack, StoreSize, Unary};
+use amd64_table::{
+    Extend, Indirect, Instr, MemReg, Near, Plain, RegRm, Rm, Stack, StoreSize, Unary, Width,
+};
 
 /// The instruction of an opcode of one byte.
 #[tactic(auto, unfolding(crate::specs::Reading::one_byte))]
@@ -103,7 +106,8 @@ fn stack_row(fields: &Fields<'_>, opcode: u8) -> Instr
 // 81 and 83.
 #[tactic(auto, unfolding(crate::specs::Reading::constant_group))]
 fn constant_group(fields: &Fields<'_>, constant: i32) -> Instr
-    ensures { result ≡ spec.constant_group fields.now.lock fields.now.rex constant fields.now.tail.now }
+    ensures { result ≡ spec.constant_group fields.now.lock (spec.width_in fields.now.rex) (field_in fields.now.tail.now)
+        (spec.operand_in fields.now.rex fields.now.tail.now) constant }
 {
     match fields.digit() {
         7 => Instr::CompareConst {
@@ -223,21 +227,19 @@ fn row_b(fields: &Fields<'_>, opcode: u8) -> Instr
 
 // C7: MOVQ of a constant to a register, or a store of one.
 #[tactic(auto, unfolding(crate::specs::Reading::constant_copy))]
-fn constant_copy(fields: &Fields<'_>) -> Instr
-    ensures { result ≡ spec.constant_copy fields.now.rex fields.now.tail.now }
+fn constant_copy(width: Width, rm: Rm, constant: i32) -> Instr
+    ensures { result ≡ spec.constant_copy width rm constant }
 {
-    let constant = long_in(fields.constant());
-    if byte_at(fields.tail, 0) / 64 == 3 {
-        Instr::LoadQuad {
+    match rm {
+        Rm::Reg(to) => Instr::LoadQuad {
             constant: i64::from(constant),
-            to: fields.low_reg(),
-        }
-    } else {
-        Instr::StoreConst {
-            width: fields.width(),
+            to,
+        },
+        Rm::Mem(to) => Instr::StoreConst {
+            width,
             constant,
-            to: fields.mem(),
-        }
+            to,
+        },
     }
 }
 
@@ -257,7 +259,7 @@ fn row_c(fields: &Fields<'_>, opcode: u8) -> Instr
             constant: byte_in(fields.constant()),
             to: fields.mem(),
         },
-        _ => constant_copy(fields),
+        _ => constant_copy(fields.width(), fields.rm(), long_in(fields.constant())),
     }
 }
 
@@ -296,7 +298,8 @@ fn unary(fields: &Fields<'_>, op: Unary) -> Instr
 // F7.
 #[tactic(auto, unfolding(crate::specs::Reading::unary_group))]
 fn unary_group(fields: &Fields<'_>) -> Instr
-    ensures { result ≡ spec.unary_group fields.now.lock fields.now.rex fields.now.tail.now }
+    ensures { result ≡ spec.unary_group fields.now.lock (spec.width_in fields.now.rex) (field_in fields.now.tail.now)
+        (spec.operand_in fields.now.rex fields.now.tail.now) }
 {
     match fields.digit() {
         2 => unary(fields, Unary::Not),
@@ -312,7 +315,8 @@ fn unary_group(fields: &Fields<'_>) -> Instr
 // FF.
 #[tactic(auto, unfolding(crate::specs::Reading::step_group))]
 fn step_group(fields: &Fields<'_>) -> Instr
-    ensures { result ≡ spec.step_group fields.now.lock fields.now.rex fields.now.tail.now }
+    ensures { result ≡ spec.step_group fields.now.lock (spec.width_in fields.now.rex) (field_in fields.now.tail.now)
+        (spec.operand_in fields.now.rex fields.now.tail.now) }
 {
     match fields.digit() {
         0 => unary(fields, Unary::Inc),

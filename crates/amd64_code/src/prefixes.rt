@@ -3,9 +3,10 @@
 ghost use Rattle.std.specs.Prelude.{◌≡◌};
 ghost use Rattle.amd64_code.specs.Heads as spec;
 
-use crate::constants::{behind, byte_at};
+use crate::constants::byte_at;
 use crate::head::{Legacy, Opcode};
 use crate::rex::Rex;
+use goasm_base::behind_or_empty;
 
 /// Whether the bytes begin with LOCK.
 pub fn lock_in(bytes: &[u8]) -> bool
@@ -19,7 +20,7 @@ pub fn behind_lock(bytes: &[u8]) -> &[u8]
     ensures { result.now ≡ spec.behind_lock bytes.now }
 {
     if byte_at(bytes, 0) == 0xf0 {
-        behind(bytes, 1)
+        behind_or_empty(bytes, 1)
     } else {
         bytes
     }
@@ -43,7 +44,7 @@ pub fn behind_legacy(bytes: &[u8]) -> &[u8]
     ensures { result.now ≡ spec.behind_legacy bytes.now }
 {
     match byte_at(bytes, 0) {
-        0x66 | 0xf3 | 0x64 => behind(bytes, 1),
+        0x66 | 0xf3 | 0x64 => behind_or_empty(bytes, 1),
         _ => bytes,
     }
 }
@@ -76,7 +77,7 @@ pub fn behind_rex(bytes: &[u8]) -> &[u8]
     ensures { result.now ≡ spec.behind_rex bytes.now }
 {
     if byte_at(bytes, 0) / 16 == 4 {
-        behind(bytes, 1)
+        behind_or_empty(bytes, 1)
     } else {
         bytes
     }
@@ -99,8 +100,8 @@ pub fn behind_opcode(bytes: &[u8]) -> &[u8]
     ensures { result.now ≡ spec.behind_opcode bytes.now }
 {
     if byte_at(bytes, 0) == 0x0f {
-        behind(bytes, 2)
+        behind_or_empty(bytes, 2)
     } else {
-        behind(bytes, 1)
+        behind_or_empty(bytes, 1)
     }
 }

@@ -14,7 +14,7 @@ use asm_target::begins_with;
 /// The fields are decoded, spelled again and compared, so no second spelling is read: neither the other opcode of a move
 /// between registers, nor REX, SIB or a displacement that isn't needed, nor a long constant where a short one does. Nor is
 /// LOCK before what doesn't write memory (Intel 64 manual, volume 2, "Instruction Format").
-#[tactic(auto, using(crate::specs::Laws::begins_read))]
+#[tactic(auto, using(crate::proofs::Laws::begins_read))]
 pub fn read(bytes: &[u8]) -> Option<(Instr, usize)>
     ensures found { IfSome result (λ found. IsFirst amd64 Fits bytes.now found.0 found.1) }
     ensures only { (i : Instr) (n : ℕ) → IsFirst amd64 Fits bytes.now i n → result ≡ Some (i, n) }

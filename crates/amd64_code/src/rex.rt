@@ -1,6 +1,5 @@
 ghost use Rattle.std.specs.Prelude.{◌≡◌, ◌≤◌};
-ghost use Rattle.amd64_table.specs.Lengths.{one_if};
-ghost use Rattle.amd64_code.specs.Heads.{rex_byte};
+ghost use Rattle.amd64_code.specs.Heads.{one_if, rex_byte};
 ghost use Rattle.amd64_code.specs.Spelling as spec;
 
 use amd64_table::{Mem, Rm};
@@ -31,19 +30,7 @@ impl Rex {
         }
     }
 
-    /// The same for a place in memory.
-    pub fn of_mem(w: bool, r: bool, mem: Mem) -> Rex
-        ensures { result ≡ spec.rex_mem w r mem }
-    {
-        Rex {
-            w,
-            r,
-            x: mem_x(mem),
-            b: mem_b(mem),
-        }
-    }
-
-    /// REX where one register stands in the opcode or in ModRM's field rm alone.
+    /// REX where one register stands in the opcode alone.
     pub fn of_low(w: bool, b: bool) -> Rex
         ensures { result ≡ spec.rex_b w b }
     {
@@ -70,23 +57,13 @@ fn one_if(test: bool) -> u8
     u8::from(test)
 }
 
-#[tactic(auto, unfolding(crate::specs::Spelling::mem_x))]
-fn mem_x(mem: Mem) -> bool
-    ensures { result ≡ spec.mem_x mem }
+/// Whether an operand of one byte asks for REX by its register alone.
+pub fn is_byte_operand(rm: Rm) -> bool
+    ensures { result ≡ spec.is_byte_operand rm }
 {
-    match mem {
-        Mem::Indexed { index, .. } => index.is_high(),
-        Mem::Base { .. } | Mem::Symbol { .. } => false,
-    }
-}
-
-#[tactic(auto, unfolding(crate::specs::Spelling::mem_b))]
-fn mem_b(mem: Mem) -> bool
-    ensures { result ≡ spec.mem_b mem }
-{
-    match mem {
-        Mem::Base { base, .. } | Mem::Indexed { base, .. } => base.is_high(),
-        Mem::Symbol { .. } => false,
+    match rm {
+        Rm::Reg(reg) => reg.is_byte_high(),
+        Rm::Mem(_) => false,
     }
 }
 
@@ -95,8 +72,8 @@ fn rm_x(rm: Rm) -> bool
     ensures { result ≡ spec.rm_x rm }
 {
     match rm {
-        Rm::Reg(_) => false,
-        Rm::Mem(mem) => mem_x(mem),
+        Rm::Mem(Mem::Indexed { index, .. }) => index.is_high(),
+        _ => false,
     }
 }
 
@@ -106,6 +83,7 @@ fn rm_b(rm: Rm) -> bool
 {
     match rm {
         Rm::Reg(reg) => reg.is_high(),
-        Rm::Mem(mem) => mem_b(mem),
+        Rm::Mem(Mem::Base { base, .. } | Mem::Indexed { base, .. }) => base.is_high(),
+        Rm::Mem(Mem::Symbol { .. }) => false,
     }
 }

@@ -1,5 +1,5 @@
-ghost use Rattle.std.specs.Prelude.{◌≡◌, length};
-ghost use Rattle.amd64_table.specs.Lengths.{len_of};
+ghost use Rattle.std.specs.Prelude.{◌≡◌, ◌≤◌, length};
+ghost use Rattle.amd64_code.specs.InstructionSet as set;
 ghost use Rattle.amd64_code.specs.Spelling.{spelling_of};
 
 use crate::computation::{
@@ -21,10 +21,11 @@ use asm_target::Spelled;
 /// displacement of 0 is left out unless the base is BP or R13; otherwise it has one byte where that is enough, and so has a
 /// constant of arithmetic. SIB stands exactly where there is an index or the base is SP or R12. What `fits` of `amd64_table`
 /// refuses is spelled by the same rules, but isn't read back.
-#[tactic(auto, using(crate::specs::LengthLaws::spelling_length))]
+#[tactic(auto, using(crate::proofs::LengthLaws::bounded))]
 pub fn spell(instr: &Instr) -> Spelled
     ensures spelling { result.items ≡ spelling_of instr.now }
-    ensures len { length result.items ≡ len_of instr.now }
+    ensures least { 1 ≤ length result.items }
+    ensures most { length result.items ≤ 15 }
 {
     match *instr {
         Instr::RegRm { op, width, reg, rm } => reg_rm(op, width, reg, rm),
@@ -110,4 +111,11 @@ pub fn spell(instr: &Instr) -> Spelled
         Instr::LoadTls { to } => load_tls(to),
         Instr::Plain { op } => plain(op),
     }
+}
+
+/// The address just behind an instruction at `pc`, modulo 2^64.
+pub fn end_of(instr: &Instr, pc: u64) -> u64
+    ensures { result ≡ set.end_of instr.now pc }
+{
+    pc.wrapping_add(spell(instr).len() as u64)
 }

@@ -1,5 +1,5 @@
 //! amd64 as a target: the instruction list of `amd64_table` with its effects and texts, the spellings and the reader
-//! of `amd64_code`, and the laws that hold of every target. The public source is the Intel 64 and IA-32 Architectures
+//! of `amd64_code`, and the laws that hold of every processor. The public source is the Intel 64 and IA-32 Architectures
 //! Software Developer's Manual, volume 2.
 #![tactic(auto)]
 
@@ -8,6 +8,3 @@ mod listed;
 
 pub use amd64::Amd64;
 pub use listed::Listed;
-
-#[cfg(test)]
-mod tests;

@@ -1,5 +1,7 @@
 ghost use Rattle.std.specs.Prelude.{◌≡◌, Some, IfNone, IfSome};
 ghost use Rattle.amd64_table.specs.declared.instr.Instr.{Instr};
+ghost use Rattle.amd64_table.specs.declared.instr.Instr.TheVariants as instr;
+ghost use Rattle.amd64_table.specs.declared.op.Plain.TheVariants as plain;
 ghost use Rattle.amd64_code.specs.InstructionSet.{Fits};
 
 use amd64_table::{Instr, fits};
@@ -34,10 +36,18 @@ impl Listed {
         ensures unlisted { IfNone result (¬ Fits instr) }
     {
         if fits(&instr) {
-            Some(Listed { instr })
+            Some(Listed::known(instr))
         } else {
             None
         }
+    }
+
+    /// An instruction that is known to be listed.
+    pub fn known(instr: Instr) -> Listed
+        requires { Fits instr }
+        ensures { result ≡ instr }
+    {
+        Listed { instr }
     }
 
     /// An instruction that was read, with its length in bytes; `None` where none was.
@@ -46,7 +56,7 @@ impl Listed {
         ensures { result ≡ found }
     {
         match found {
-            Some((instr, len)) => Some((Listed { instr }, len)),
+            Some((instr, len)) => Some((Listed::known(instr), len)),
             None => None,
         }
     }
@@ -62,9 +72,10 @@ impl Listed {
 
 impl Default for Listed {
     /// PAUSE.
-    fn default() -> Self {
-        Listed {
-            instr: Instr::default(),
-        }
+    #[tactic(auto, unfolding(amd64_table::specs::Fits::fits))]
+    fn default() -> Self
+        ensures { result ≡ instr.Plain plain.Pause }
+    {
+        Listed::known(Instr::default())
     }
 }

@@ -1,2 +1,5 @@
 pub mod MoveLemmas
 pub mod RegisterLemmas
+pub mod NextLemmas
+pub mod BoundLemmas
+pub mod StepLemmas

@@ -8,18 +8,20 @@ use Rattle.machine_effect.specs.declared.effect.Atom.{Atom}
 use Rattle.machine_effect.specs.declared.effect.Atom.TheVariants as atom
 use Rattle.machine_effect.specs.declared.flag_rule.FlagRule.{FlagRule}
 use Rattle.machine_effect.specs.declared.flag_rule.FlagRule.TheVariants as flag
+use Rattle.machine_effect.specs.declared.flow.SpMove.{SpMove}
 use Rattle.machine_effect.specs.declared.flow.SpMove.TheVariants.{Keep, By, Other}
 use Rattle.machine_effect.specs.Numbers.{signed, unsigned, fits as fits_bits}
 use Rattle.machine_effect.specs.FlagsAfter.{sets_all_five}
+use Rattle.machine_effect.specs.Shapes.{amd64_shape, IsStackDistance}
 use Rattle.machine_effect.specs.Flow.{constant_after, added_to, sp_move_of, move_by, flow_of}
-use Rattle.amd64_table.specs.declared.code.Cc.{Cc}
+use Rattle.amd64_table.specs.declared.condition.Cc.{Cc}
 use Rattle.amd64_table.specs.declared.reg.Reg.{Reg}
 use Rattle.amd64_table.specs.declared.reg.Reg.TheVariants.{Sp, Cx}
-use Rattle.amd64_table.specs.declared.operand.Width.{Width}
-use Rattle.amd64_table.specs.declared.operand.Width.TheVariants.{Q, L}
-use Rattle.amd64_table.specs.declared.operand.Mem.{Mem}
-use Rattle.amd64_table.specs.declared.operand.Rm.{Rm}
-use Rattle.amd64_table.specs.declared.operand.Rm.TheVariants as operand
+use Rattle.amd64_table.specs.declared.width.Width.{Width}
+use Rattle.amd64_table.specs.declared.width.Width.TheVariants.{Q, L}
+use Rattle.amd64_table.specs.declared.memory.Mem.{Mem}
+use Rattle.amd64_table.specs.declared.memory.Rm.{Rm}
+use Rattle.amd64_table.specs.declared.memory.Rm.TheVariants as operand
 use Rattle.amd64_table.specs.declared.op.Arithmetic.{Arithmetic}
 use Rattle.amd64_table.specs.declared.op.Arithmetic.TheVariants as arithmetic
 use Rattle.amd64_table.specs.declared.op.RegRm.{RegRm}
@@ -51,9 +53,12 @@ use Rattle.amd64_table.specs.declared.instr.Instr.TheVariants as instr
 use Rattle.amd64_table.specs.Registers.{number_of}
 use Rattle.amd64_table.specs.Fits.{fits, fits_lock, fits_rm}
 use Rattle.amd64_table.specs.Operands.{bits_of, bytes_of, rm_atom, load_of, writes_of, store_of, access_of, reg_atom, signed_atom}
-use Rattle.amd64_table.specs.Shapes.{copy_of, tls_word, computing, changing, setting, testing, reading, loading, storing, swapping, result_of, flags_of, reg_rm_effect, arithmetic_effect, mem_reg_effect, compare_const_effect, store_low_effect, extend_bytes, extended, extend_effect, store_const_effect, unary_value, unary_flags, unary_effect, mul_div_effect, rm_reg_value, rm_reg_effect, shift_effect, stack_effect, exchange_effect, compare_exchange, exchange_add, atomic_effect, set_cc_effect, move_cc_effect, swap_bytes_effect, short_effect, near_effect, indirect_effect, load_wide_effect, store_wide_effect, xor_wide_effect, load_tls_effect, plain_effect}
+use Rattle.amd64_table.specs.Forms.{copy_of, computing, changing, setting, testing, reading, loading, storing, swapping}
+use Rattle.amd64_table.specs.Moves.{tls_word, reg_rm_effect, mem_reg_effect, store_low_effect, extend_bytes, extended, extend_effect, store_const_effect, move_cc_effect, load_wide_effect, store_wide_effect, load_tls_effect}
+use Rattle.amd64_table.specs.Computation.{result_of, flags_of, arithmetic_effect, compare_const_effect, unary_value, unary_flags, unary_effect, mul_div_effect, rm_reg_value, rm_reg_effect, shift_effect, exchange_effect, compare_exchange, exchange_add, atomic_effect, set_cc_effect, swap_bytes_effect, xor_wide_effect}
+use Rattle.amd64_table.specs.Control.{stack_effect, short_effect, near_effect, indirect_effect, plain_effect}
 use Rattle.amd64_table.specs.Effects.{effect_at}
-use Rattle.amd64_table.specs.Moves.{amd64_shape, written, written_rm, moved, moved_reg, moved_rm, reg_rm_move, mem_reg_move, stack_move, atomic_move, move_of, IsNear}
+use Rattle.amd64_table.specs.Flows.{written, written_rm, moved, moved_reg, moved_rm, reg_rm_move, mem_reg_move, stack_move, atomic_move, move_of}
 
 -- a register is written with a value that isn't a sum or a difference of the stack pointer and a constant
 one_written : (reg : Reg) (value : Value) (load : Option Access) (store : Option (Access × Value)) (flags : FlagRule)
@@ -359,95 +364,105 @@ pub flow_moves : (i : Instr) (end : ℕ) → fits i ≡ true → (flow_of (effec
 unfolding flow_of
 flow_moves i end listed = moves i end listed
 
-kept_near : IsNear Keep
-kept_near k is = cc
-
-other_near : IsNear Other
-other_near k is = cc
+-- a move that is a constant is small
+IsNear : SpMove → Type 0
+IsNear Keep = Unit {0}
+IsNear (By k) = IsStackDistance k
+IsNear Other = Unit {0}
 
 written_near : (reg : Reg) → IsNear (written reg)
-written_near Sp = other_near
-written_near _ = kept_near
+unfolding IsNear
+written_near Sp = tt
+written_near _ = tt
 
 written_rm_near : (rm : Rm) → IsNear (written_rm rm)
+unfolding IsNear
 written_rm_near (operand.Reg reg) = written_near reg
-written_rm_near (operand.Mem mem) = kept_near
+written_rm_near (operand.Mem mem) = tt
 
 -- a number of 32 bits with a sign, and its opposite
-number_near : (c : ℤ) → fits_bits 32 c ≡ true → (negsuc (2 ^ 31 - 1) ≤ℤ c) × (c ≤ℤ pos (2 ^ 31))
-number_near (pos n) near = let low : 2 * n < 2 ^ 32 = ltb-true (2 * n) (2 ^ 32) near in (omega (arith, ints), omega (arith, ints))
-number_near (negsuc n) near = let low : 2 * n < 2 ^ 32 = ltb-true (2 * n) (2 ^ 32) near in (omega (arith, ints), omega (arith, ints))
+number_near : (c : ℤ) → fits_bits 32 c ≡ true → IsStackDistance c
+number_near (pos n) near = let low : 2 * n < 2 ^ 32 = ltb-true (2 * n) (2 ^ 32) near in record { least = omega (arith, ints); most = omega (arith, ints) }
+number_near (negsuc n) near = let low : 2 * n < 2 ^ 32 = ltb-true (2 * n) (2 ^ 32) near in record { least = omega (arith, ints); most = omega (arith, ints) }
 
-opposite_near : (c : ℤ) → fits_bits 32 c ≡ true → (negsuc (2 ^ 31 - 1) ≤ℤ (pos 0 -ℤ c)) × ((pos 0 -ℤ c) ≤ℤ pos (2 ^ 31))
-opposite_near (pos n) near = let low : 2 * n < 2 ^ 32 = ltb-true (2 * n) (2 ^ 32) near in (omega (arith, ints), omega (arith, ints))
-opposite_near (negsuc n) near = let low : 2 * n < 2 ^ 32 = ltb-true (2 * n) (2 ^ 32) near in (omega (arith, ints), omega (arith, ints))
-
-by_near : (c : ℤ) → (negsuc (2 ^ 31 - 1) ≤ℤ c) × (c ≤ℤ pos (2 ^ 31)) → IsNear (By c)
-by_near c near k is = let same : c ≡ k = cc in rw (← same) near
+opposite_near : (c : ℤ) → fits_bits 32 c ≡ true → IsStackDistance (pos 0 -ℤ c)
+opposite_near (pos n) near = let low : 2 * n < 2 ^ 32 = ltb-true (2 * n) (2 ^ 32) near in record { least = omega (arith, ints); most = omega (arith, ints) }
+opposite_near (negsuc n) near = let low : 2 * n < 2 ^ 32 = ltb-true (2 * n) (2 ^ 32) near in record { least = omega (arith, ints); most = omega (arith, ints) }
 
 moved_near : (op : Arithmetic) (width : Width) (c : ℤ) → fits_bits 32 c ≡ true → IsNear (moved op width c)
-moved_near arithmetic.Add Q c near = by_near c (number_near c near)
-moved_near arithmetic.Sub Q c near = by_near (pos 0 -ℤ c) (opposite_near c near)
-moved_near arithmetic.Add L c near = other_near
-moved_near arithmetic.Sub L c near = other_near
-moved_near arithmetic.Or Q c near = other_near
-moved_near arithmetic.Or L c near = other_near
-moved_near arithmetic.Adc Q c near = other_near
-moved_near arithmetic.Adc L c near = other_near
-moved_near arithmetic.Sbb Q c near = other_near
-moved_near arithmetic.Sbb L c near = other_near
-moved_near arithmetic.And Q c near = other_near
-moved_near arithmetic.And L c near = other_near
-moved_near arithmetic.Xor Q c near = other_near
-moved_near arithmetic.Xor L c near = other_near
+unfolding IsNear
+moved_near arithmetic.Add Q c near = number_near c near
+moved_near arithmetic.Sub Q c near = opposite_near c near
+moved_near arithmetic.Add L c near = tt
+moved_near arithmetic.Sub L c near = tt
+moved_near arithmetic.Or Q c near = tt
+moved_near arithmetic.Or L c near = tt
+moved_near arithmetic.Adc Q c near = tt
+moved_near arithmetic.Adc L c near = tt
+moved_near arithmetic.Sbb Q c near = tt
+moved_near arithmetic.Sbb L c near = tt
+moved_near arithmetic.And Q c near = tt
+moved_near arithmetic.And L c near = tt
+moved_near arithmetic.Xor Q c near = tt
+moved_near arithmetic.Xor L c near = tt
 
 moved_reg_near : (op : Arithmetic) (width : Width) (c : ℤ) (reg : Reg) → fits_bits 32 c ≡ true → IsNear (moved_reg op width c reg)
+unfolding IsNear
 moved_reg_near op width c Sp near = moved_near op width c near
-moved_reg_near op width c _ near = kept_near
+moved_reg_near op width c _ near = tt
 
 moved_rm_near : (op : Arithmetic) (width : Width) (c : ℤ) (rm : Rm) → fits_bits 32 c ≡ true → IsNear (moved_rm op width c rm)
+unfolding IsNear
 moved_rm_near op width c (operand.Reg reg) near = moved_reg_near op width c reg near
-moved_rm_near op width c (operand.Mem mem) near = kept_near
+moved_rm_near op width c (operand.Mem mem) near = tt
 
 reg_rm_near : (op : RegRm) (rm : Rm) → IsNear (reg_rm_move op rm)
+unfolding IsNear
 reg_rm_near reg_rm.Mov rm = written_rm_near rm
-reg_rm_near _ rm = kept_near
+reg_rm_near _ rm = tt
 
 mem_reg_near : (op : MemReg) (reg : Reg) → IsNear (mem_reg_move op reg)
+unfolding IsNear
 mem_reg_near mem_reg.Mov reg = written_near reg
-mem_reg_near mem_reg.Cmp reg = kept_near
+mem_reg_near mem_reg.Cmp reg = tt
 mem_reg_near (mem_reg.Arithmetic op) reg = written_near reg
 
 stack_near : (op : Stack) (reg : Reg) → IsNear (stack_move op reg)
-stack_near stack.Push reg = by_near (negsuc 7) (omega (arith, ints), omega (arith, ints))
-stack_near stack.Pop Sp = other_near
-stack_near stack.Pop _ = by_near (pos 8) (omega (arith, ints), omega (arith, ints))
+unfolding IsNear
+stack_near stack.Push reg = record { least = omega (arith, ints); most = omega (arith, ints) }
+stack_near stack.Pop Sp = tt
+stack_near stack.Pop _ = record { least = omega (arith, ints); most = omega (arith, ints) }
 
 atomic_near : (op : Atomic) (reg : Reg) → IsNear (atomic_move op reg)
-atomic_near atomic.CompareExchange reg = kept_near
+unfolding IsNear
+atomic_near atomic.CompareExchange reg = tt
 atomic_near atomic.ExchangeAdd reg = written_near reg
 
--- each move lies between -2^31 and 2^31
-pub moves_near : (i : Instr) → fits i ≡ true → IsNear (move_of i)
-unfolding move_of fits
-moves_near (instr.RegRm op width reg rm) listed = reg_rm_near op rm
-moves_near (instr.ArithmeticReg op lock width from to) listed = written_rm_near to
-moves_near (instr.MemReg op width mem reg) listed = mem_reg_near op reg
-moves_near (instr.ArithmeticConst op lock width constant to) listed =
+move_near : (i : Instr) → fits i ≡ true → IsNear (move_of i)
+unfolding move_of fits IsNear
+move_near (instr.RegRm op width reg rm) listed = reg_rm_near op rm
+move_near (instr.ArithmeticReg op lock width from to) listed = written_rm_near to
+move_near (instr.MemReg op width mem reg) listed = mem_reg_near op reg
+move_near (instr.ArithmeticConst op lock width constant to) listed =
     moved_rm_near op width constant to (and_parts (fits_lock lock to && fits_rm to) (fits_bits 32 constant) listed).1
-moves_near (instr.Extend op from to) listed = written_near to
-moves_near (instr.LoadLong constant to) listed = written_near to
-moves_near (instr.LoadQuad constant to) listed = written_near to
-moves_near (instr.Lea from to) listed = written_near to
-moves_near (instr.Unary op lock width rm) listed = written_rm_near rm
-moves_near (instr.RmReg op width from to) listed = written_near to
-moves_near (instr.ShiftConst op width count rm) listed = written_rm_near rm
-moves_near (instr.ShiftCx op width rm) listed = written_rm_near rm
-moves_near (instr.Stack op reg) listed = stack_near op reg
-moves_near (instr.Exchange width reg mem) listed = written_near reg
-moves_near (instr.Atomic op lock width reg mem) listed = atomic_near op reg
-moves_near (instr.SetCc code to) listed = written_rm_near to
-moves_near (instr.MoveCc code width from to) listed = written_near to
-moves_near (instr.SwapBytes width reg) listed = written_near reg
-moves_near (instr.LoadTls to) listed = written_near to
-moves_near _ listed = kept_near
+move_near (instr.Extend op from to) listed = written_near to
+move_near (instr.LoadLong constant to) listed = written_near to
+move_near (instr.LoadQuad constant to) listed = written_near to
+move_near (instr.Lea from to) listed = written_near to
+move_near (instr.Unary op lock width rm) listed = written_rm_near rm
+move_near (instr.RmReg op width from to) listed = written_near to
+move_near (instr.ShiftConst op width count rm) listed = written_rm_near rm
+move_near (instr.ShiftCx op width rm) listed = written_rm_near rm
+move_near (instr.Stack op reg) listed = stack_near op reg
+move_near (instr.Exchange width reg mem) listed = written_near reg
+move_near (instr.Atomic op lock width reg mem) listed = atomic_near op reg
+move_near (instr.SetCc code to) listed = written_rm_near to
+move_near (instr.MoveCc code width from to) listed = written_near to
+move_near (instr.SwapBytes width reg) listed = written_near reg
+move_near (instr.LoadTls to) listed = written_near to
+move_near _ listed = tt
+
+-- each constant by which an instruction moves the stack pointer lies between -2^31 and 2^31
+pub moves_near : (i : Instr) → fits i ≡ true → (k : ℤ) → move_of i ≡ By k → IsStackDistance k
+unfolding IsNear
+moves_near i listed k is = rw is at (move_near i listed)

@@ -2,8 +2,8 @@
 use Rattle.std.specs.Prelude.{ℕ, List, codes}
 use Rattle.machine_effect.specs.declared.cond.Cond.{Cond}
 use Rattle.machine_effect.specs.declared.cond.Cond.TheVariants as cond
-use Rattle.amd64_table.specs.declared.code.Cc.{Cc}
-use Rattle.amd64_table.specs.declared.code.Cc.TheVariants.{Over, NotOver, Carry, NotCarry, Zero, NotZero, CarryOrZero, NeitherCarryNorZero, Negative, NotNegative, ParityEven, ParityOdd, Less, GreaterOrEqual, LessOrEqual, Greater}
+use Rattle.amd64_table.specs.declared.condition.Cc.{Cc}
+use Rattle.amd64_table.specs.declared.condition.Cc.TheVariants.{Over, NotOver, Carry, NotCarry, Zero, NotZero, CarryOrZero, NeitherCarryNorZero, Negative, NotNegative, ParityEven, ParityOdd, Less, GreaterOrEqual, LessOrEqual, Greater}
 
 -- a condition's number in spellings
 unfoldable pub cc_number : Cc → ℕ

@@ -1,20 +1,18 @@
 -- What each instruction does: the one definition of the meaning of amd64 instructions. The return address that CALL pushes and RET
 -- pops isn't in it; a machine's step adds that.
-use Rattle.std.specs.Prelude.{ℕ, ◌+◌, ◌%◌, ◌^◌}
+use Rattle.std.specs.Prelude.{ℕ}
 use Rattle.machine_effect.specs.declared.effect.Effect.{Effect}
 use Rattle.machine_effect.specs.declared.effect.Atom.TheVariants as atom
 use Rattle.amd64_table.specs.declared.reg.Reg.TheVariants.{Cx}
 use Rattle.amd64_table.specs.declared.instr.Instr.{Instr}
 use Rattle.amd64_table.specs.declared.instr.Instr.TheVariants as instr
-use Rattle.amd64_table.specs.Lengths.{len_of}
 use Rattle.amd64_table.specs.Operands.{reg_atom, signed_atom}
-use Rattle.amd64_table.specs.Shapes.{copy_of, loading, storing, reg_rm_effect, arithmetic_effect, mem_reg_effect, compare_const_effect, store_low_effect, extend_effect, store_const_effect, place_of, unary_effect, mul_div_effect, rm_reg_effect, shift_effect, stack_effect, exchange_effect, atomic_effect, set_cc_effect, move_cc_effect, swap_bytes_effect, short_effect, near_effect, indirect_effect, load_wide_effect, store_wide_effect, xor_wide_effect, load_tls_effect, plain_effect}
+use Rattle.amd64_table.specs.Forms.{copy_of, loading, storing}
+use Rattle.amd64_table.specs.Moves.{reg_rm_effect, mem_reg_effect, store_low_effect, extend_effect, store_const_effect, place_of, move_cc_effect, load_wide_effect, store_wide_effect, load_tls_effect}
+use Rattle.amd64_table.specs.Computation.{arithmetic_effect, compare_const_effect, unary_effect, mul_div_effect, rm_reg_effect, shift_effect, exchange_effect, atomic_effect, set_cc_effect, swap_bytes_effect, xor_wide_effect}
+use Rattle.amd64_table.specs.Control.{stack_effect, short_effect, near_effect, indirect_effect, plain_effect}
 
--- the address just behind an instruction at `pc`
-abbrev pub end_of : Instr → ℕ → ℕ
-end_of instr pc = (pc + len_of instr) % 2 ^ 64
-
--- what an instruction does that ends at `end`
+-- what an instruction does that ends at `end`, the address just behind it
 unfoldable pub effect_at : Instr → ℕ → Effect
 effect_at (instr.RegRm op width reg rm) end = reg_rm_effect op width reg rm end
 effect_at (instr.ArithmeticReg op lock width from to) end = arithmetic_effect op width (reg_atom from) to end
@@ -47,7 +45,3 @@ effect_at (instr.StoreWide from to) end = store_wide_effect from to end
 effect_at (instr.XorWide from to) end = xor_wide_effect from to
 effect_at (instr.LoadTls to) end = load_tls_effect to
 effect_at (instr.Plain op) end = plain_effect op
-
--- what an instruction at `pc` does
-abbrev pub effect_of : Instr → ℕ → Effect
-effect_of instr pc = effect_at instr (end_of instr pc)

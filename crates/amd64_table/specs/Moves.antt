@@ -1,96 +1,97 @@
--- What each instruction does to the stack pointer, as its effect's form tells.
-use Rattle.std.specs.Prelude.{◌≡◌, ℤ, pos, negsuc, ◌-◌, ◌^◌, ◌-ℤ◌, ◌≤ℤ◌, None}
-use Rattle.machine_effect.specs.declared.flow.Shape.{Shape}
-use Rattle.machine_effect.specs.declared.flow.SpMove.{SpMove}
-use Rattle.machine_effect.specs.declared.flow.SpMove.TheVariants.{Keep, By, Other}
+-- What the instructions that move do (Intel 64 manual, volume 2): copies, constants, addresses.
+use Rattle.std.specs.Prelude.{ℕ, ℤ, negsuc, [], ◌∷◌, Some, None}
+use Rattle.machine_effect.specs.declared.effect.Atom.{Atom}
+use Rattle.machine_effect.specs.declared.effect.Atom.TheVariants as atom
+use Rattle.machine_effect.specs.declared.effect.Access.{Access}
+use Rattle.machine_effect.specs.declared.effect.Value.{Value}
+use Rattle.machine_effect.specs.declared.effect.WideValue.TheVariants as wide_value
+use Rattle.machine_effect.specs.declared.effect.Effect.{Effect}
+use Rattle.machine_effect.specs.declared.op.Op.TheVariants as op
+use Rattle.machine_effect.specs.declared.op.Logic.TheVariants as logic
+use Rattle.machine_effect.specs.declared.flag_rule.FlagRule.TheVariants as flags
+use Rattle.machine_effect.specs.Numbers.{moved_by}
+use Rattle.amd64_table.specs.declared.condition.Cc.{Cc}
 use Rattle.amd64_table.specs.declared.reg.Reg.{Reg}
-use Rattle.amd64_table.specs.declared.reg.Reg.TheVariants.{Sp}
-use Rattle.amd64_table.specs.declared.operand.Width.{Width}
-use Rattle.amd64_table.specs.declared.operand.Width.TheVariants.{Q}
-use Rattle.amd64_table.specs.declared.operand.Rm.{Rm}
-use Rattle.amd64_table.specs.declared.operand.Rm.TheVariants as operand
-use Rattle.amd64_table.specs.declared.op.Arithmetic.{Arithmetic}
-use Rattle.amd64_table.specs.declared.op.Arithmetic.TheVariants as arithmetic
+use Rattle.amd64_table.specs.declared.xmm.Xmm.{Xmm}
+use Rattle.amd64_table.specs.declared.width.Width.{Width}
+use Rattle.amd64_table.specs.declared.memory.Mem.{Mem}
+use Rattle.amd64_table.specs.declared.memory.Mem.TheVariants as memory
+use Rattle.amd64_table.specs.declared.memory.Rm.{Rm}
+use Rattle.amd64_table.specs.declared.memory.Rm.TheVariants as operand
 use Rattle.amd64_table.specs.declared.op.RegRm.{RegRm}
 use Rattle.amd64_table.specs.declared.op.RegRm.TheVariants as reg_rm
 use Rattle.amd64_table.specs.declared.op.MemReg.{MemReg}
 use Rattle.amd64_table.specs.declared.op.MemReg.TheVariants as mem_reg
-use Rattle.amd64_table.specs.declared.op.Stack.{Stack}
-use Rattle.amd64_table.specs.declared.op.Stack.TheVariants as stack
-use Rattle.amd64_table.specs.declared.op.Atomic.{Atomic}
-use Rattle.amd64_table.specs.declared.op.Atomic.TheVariants as atomic
-use Rattle.amd64_table.specs.declared.instr.Instr.{Instr}
-use Rattle.amd64_table.specs.declared.instr.Instr.TheVariants as instr
+use Rattle.amd64_table.specs.declared.op.StoreSize.{StoreSize}
+use Rattle.amd64_table.specs.declared.op.StoreSize.TheVariants as size
+use Rattle.amd64_table.specs.declared.op.Extend.{Extend}
+use Rattle.amd64_table.specs.declared.op.Extend.TheVariants as extend
+use Rattle.amd64_table.specs.Registers.{number_of, xmm_number}
+use Rattle.amd64_table.specs.Conditions.{cond_of}
+use Rattle.amd64_table.specs.Operands.{bits_of, bytes_of, factor_of, reg_atom, signed_atom, nothing, access_of, rm_atom}
+use Rattle.amd64_table.specs.Forms.{value_of, copy_of, sum_of, computing, widening, setting, testing, reading, storing}
+use Rattle.amd64_table.specs.Computation.{result_of, flags_of}
 
--- the stack pointer is register 4, and there's no link register
-abbrev pub amd64_shape : Shape
-amd64_shape = record { sp = 4; link = None }
+unfoldable pub reg_rm_effect : RegRm → Width → Reg → Rm → ℕ → Effect
+reg_rm_effect reg_rm.Mov width reg rm end = setting (bytes_of width) end rm (copy_of (reg_atom reg) (bits_of width))
+reg_rm_effect reg_rm.Cmp width reg rm end =
+    testing width end rm (flags.Subtract (rm_atom rm) (reg_atom reg) (bits_of width))
+reg_rm_effect reg_rm.Test width reg rm end =
+    testing width end rm (flags.Logic logic.And (rm_atom rm) (reg_atom reg) (bits_of width))
 
--- a register is written in a way that moves no stack
-abbrev pub written : Reg → SpMove
-written Sp = Other
-written _ = Keep
+unfoldable pub mem_reg_effect : MemReg → Width → Mem → Reg → ℕ → Effect
+mem_reg_effect mem_reg.Mov width mem reg end =
+    reading (bytes_of width) end (operand.Mem mem) reg (copy_of atom.Loaded (bits_of width)) flags.Keep
+mem_reg_effect mem_reg.Cmp width mem reg end =
+    testing width end (operand.Mem mem) (flags.Subtract (reg_atom reg) atom.Loaded (bits_of width))
+mem_reg_effect (mem_reg.Arithmetic op) width mem reg end =
+    reading (bytes_of width) end (operand.Mem mem) reg (result_of op (reg_atom reg) atom.Loaded (bits_of width))
+    (flags_of op (reg_atom reg) atom.Loaded (bits_of width))
 
-abbrev pub written_rm : Rm → SpMove
-written_rm (operand.Reg reg) = written reg
-written_rm (operand.Mem mem) = Keep
+unfoldable pub store_low_effect : StoreSize → Reg → Mem → ℕ → Effect
+store_low_effect size.Byte from to end = storing 1 end to (copy_of (reg_atom from) 8)
+store_low_effect size.Word from to end = storing 2 end to (copy_of (reg_atom from) 16)
 
--- a sum or a difference of 64 bits moves the stack pointer by the constant
-abbrev pub moved : Arithmetic → Width → ℤ → SpMove
-moved arithmetic.Add Q constant = By constant
-moved arithmetic.Sub Q constant = By (pos 0 -ℤ constant)
-moved _ _ constant = Other
+unfoldable pub extend_bytes : Extend → ℕ
+extend_bytes extend.ByteZero = 1
+extend_bytes extend.WordZero = 2
+extend_bytes extend.ByteSign = 1
+extend_bytes extend.WordSign = 2
+extend_bytes extend.LongSign = 4
 
-abbrev pub moved_reg : Arithmetic → Width → ℤ → Reg → SpMove
-moved_reg op width constant Sp = moved op width constant
-moved_reg op width constant _ = Keep
+unfoldable pub extended : Extend → Atom → Value
+extended extend.ByteZero a = copy_of a 8
+extended extend.WordZero a = copy_of a 16
+extended extend.ByteSign a = value_of op.SignExtend a (atom.Const 8) 64
+extended extend.WordSign a = value_of op.SignExtend a (atom.Const 16) 64
+extended extend.LongSign a = value_of op.SignExtend a (atom.Const 32) 64
 
-abbrev pub moved_rm : Arithmetic → Width → ℤ → Rm → SpMove
-moved_rm op width constant (operand.Reg reg) = moved_reg op width constant reg
-moved_rm op width constant (operand.Mem mem) = Keep
+unfoldable pub extend_effect : Extend → Rm → Reg → ℕ → Effect
+extend_effect op from to end = reading (extend_bytes op) end from to (extended op (rm_atom from)) flags.Keep
 
-abbrev pub reg_rm_move : RegRm → Rm → SpMove
-reg_rm_move reg_rm.Mov rm = written_rm rm
-reg_rm_move _ rm = Keep
+unfoldable pub store_const_effect : Width → ℤ → Mem → ℕ → Effect
+store_const_effect width constant to end = storing (bytes_of width) end to (copy_of (signed_atom constant) (bits_of width))
 
-abbrev pub mem_reg_move : MemReg → Reg → SpMove
-mem_reg_move mem_reg.Cmp reg = Keep
-mem_reg_move _ reg = written reg
+-- the address of a place in memory
+unfoldable pub place_of : Mem → ℕ → Value
+place_of (memory.Base base disp) end = value_of op.Add (reg_atom base) (signed_atom disp) 64
+place_of (memory.Indexed base index scale disp) end =
+    sum_of (op.AddScaled (factor_of scale)) (reg_atom base) (reg_atom index) (signed_atom disp)
+place_of (memory.Symbol distance) end = copy_of (atom.Const (moved_by end distance)) 64
 
--- POPQ SP leaves in it what was loaded
-abbrev pub stack_move : Stack → Reg → SpMove
-stack_move stack.Push reg = By (negsuc 7)
-stack_move stack.Pop Sp = Other
-stack_move stack.Pop _ = By (pos 8)
+unfoldable pub move_cc_effect : Cc → Width → Rm → Reg → ℕ → Effect
+move_cc_effect code width from to end =
+    reading (bytes_of width) end from to (value_of (op.Choose (cond_of code)) (rm_atom from) (reg_atom to) (bits_of width)) flags.Keep
 
-abbrev pub atomic_move : Atomic → Reg → SpMove
-atomic_move atomic.CompareExchange reg = Keep
-atomic_move atomic.ExchangeAdd reg = written reg
+unfoldable pub load_wide_effect : Mem → Xmm → ℕ → Effect
+load_wide_effect from to end = widening (Some (access_of 16 end from)) (xmm_number to, wide_value.Loaded)
 
--- ADDQ and SUBQ of a constant, PUSHQ, and POPQ of another register move the stack pointer by a constant. All else that writes it
--- does so otherwise
-unfoldable pub move_of : Instr → SpMove
-move_of (instr.RegRm op width reg rm) = reg_rm_move op rm
-move_of (instr.ArithmeticReg op lock width from to) = written_rm to
-move_of (instr.MemReg op width mem reg) = mem_reg_move op reg
-move_of (instr.ArithmeticConst op lock width constant to) = moved_rm op width constant to
-move_of (instr.Extend op from to) = written to
-move_of (instr.LoadLong constant to) = written to
-move_of (instr.LoadQuad constant to) = written to
-move_of (instr.Lea from to) = written to
-move_of (instr.Unary op lock width rm) = written_rm rm
-move_of (instr.RmReg op width from to) = written to
-move_of (instr.ShiftConst op width count rm) = written_rm rm
-move_of (instr.ShiftCx op width rm) = written_rm rm
-move_of (instr.Stack op reg) = stack_move op reg
-move_of (instr.Exchange width reg mem) = written reg
-move_of (instr.Atomic op lock width reg mem) = atomic_move op reg
-move_of (instr.SetCc code to) = written_rm to
-move_of (instr.MoveCc code width from to) = written to
-move_of (instr.SwapBytes width reg) = written reg
-move_of (instr.LoadTls to) = written to
-move_of _ = Keep
+unfoldable pub store_wide_effect : Xmm → Mem → ℕ → Effect
+store_wide_effect from to end = storing 16 end to (copy_of (atom.Wide (xmm_number from)) 128)
 
--- a move of the stack pointer lies between -2^31 and 2^31
-abbrev pub IsNear : SpMove → Type 0
-IsNear move = (k : ℤ) → move ≡ By k → (negsuc (2 ^ 31 - 1) ≤ℤ k) × (k ≤ℤ pos (2 ^ 31))
+-- the word below the base of thread-local storage, which is register 16 of the state
+abbrev pub tls_word : Access
+tls_word = record { width = 8; base = atom.Reg 16; index = nothing; scale = 1; disp = negsuc 7 }
+
+unfoldable pub load_tls_effect : Reg → Effect
+load_tls_effect to = computing ((number_of to, copy_of atom.Loaded 64) ∷ []) (Some tls_word) None flags.Keep

@@ -1,19 +1,19 @@
 -- Operands: widths, places in memory, and what a register or memory operand reads and takes.
-use Rattle.std.specs.Prelude.{ℕ, ℤ, pos, Bool, true, false, List, [], ◌∷◌, Option, Some, None}
+use Rattle.std.specs.Prelude.{ℕ, ℤ, pos, Bool, true, false, ◌==◌, List, [], ◌∷◌, Option, Some, None}
 use Rattle.machine_effect.specs.declared.effect.Atom.{Atom}
 use Rattle.machine_effect.specs.declared.effect.Atom.TheVariants as atom
 use Rattle.machine_effect.specs.declared.effect.Access.{Access}
 use Rattle.machine_effect.specs.declared.effect.Value.{Value}
 use Rattle.machine_effect.specs.Numbers.{moved_by, unsigned}
 use Rattle.amd64_table.specs.declared.reg.Reg.{Reg}
-use Rattle.amd64_table.specs.declared.operand.Width.{Width}
-use Rattle.amd64_table.specs.declared.operand.Width.TheVariants.{Q, L}
-use Rattle.amd64_table.specs.declared.operand.Scale.{Scale}
-use Rattle.amd64_table.specs.declared.operand.Scale.TheVariants.{One, Two, Four, Eight}
-use Rattle.amd64_table.specs.declared.operand.Mem.{Mem}
-use Rattle.amd64_table.specs.declared.operand.Mem.TheVariants as memory
-use Rattle.amd64_table.specs.declared.operand.Rm.{Rm}
-use Rattle.amd64_table.specs.declared.operand.Rm.TheVariants as operand
+use Rattle.amd64_table.specs.declared.width.Width.{Width}
+use Rattle.amd64_table.specs.declared.width.Width.TheVariants.{Q, L}
+use Rattle.amd64_table.specs.declared.memory.Scale.{Scale}
+use Rattle.amd64_table.specs.declared.memory.Scale.TheVariants.{One, Two, Four, Eight}
+use Rattle.amd64_table.specs.declared.memory.Mem.{Mem}
+use Rattle.amd64_table.specs.declared.memory.Mem.TheVariants as memory
+use Rattle.amd64_table.specs.declared.memory.Rm.{Rm}
+use Rattle.amd64_table.specs.declared.memory.Rm.TheVariants as operand
 use Rattle.amd64_table.specs.Registers.{number_of}
 
 unfoldable pub bits_of : Width → ℕ
@@ -37,6 +37,11 @@ factor_of Eight = 8
 abbrev pub is_memory : Rm → Bool
 is_memory (operand.Reg reg) = false
 is_memory (operand.Mem place) = true
+
+-- a displacement of 0 is none
+abbrev pub is_none : ℤ → Bool
+is_none (pos n) = n == 0
+is_none _ = false
 
 -- a register as something that is read
 abbrev pub reg_atom : Reg → Atom

@@ -51,6 +51,10 @@ low_bits reg = number_of reg % 8
 abbrev pub is_high : Reg → Bool
 is_high reg = nat_le 8 (number_of reg)
 
+-- as an operand of one byte a register needs REX from SP on; without it the numbers 4 to 7 name the second bytes of AX to BX
+abbrev pub is_byte_high : Reg → Bool
+is_byte_high reg = nat_le 4 (number_of reg)
+
 abbrev pub low_bits_xmm : Xmm → ℕ
 low_bits_xmm xmm = xmm_number xmm % 8
 

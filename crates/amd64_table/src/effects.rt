@@ -1,48 +1,39 @@
-ghost use Rattle.std.specs.Prelude.{◌≡◌, IsTrue};
+ghost use Rattle.std.specs.Prelude.{◌≡◌, ℤ, IsTrue};
+ghost use Rattle.machine_effect.specs.declared.flow.SpMove.TheVariants.{By};
 ghost use Rattle.machine_effect.specs.Flow.{flow_of};
+ghost use Rattle.machine_effect.specs.Shapes.{amd64_shape, IsStackDistance};
 ghost use Rattle.amd64_table.specs.Effects as effects;
 ghost use Rattle.amd64_table.specs.Fits.{fits};
-ghost use Rattle.amd64_table.specs.Moves.{amd64_shape, move_of, IsNear};
-ghost use Rattle.amd64_table.specs.Effects.{effect_of};
+ghost use Rattle.amd64_table.specs.Flows.{move_of};
 
-use crate::control::{
-    atomic_effect, exchange_effect, indirect_effect, load_tls_effect, load_wide_effect,
-    move_cc_effect, near_effect, plain_effect, set_cc_effect, short_effect, stack_effect,
-    store_wide_effect, swap_bytes_effect, xor_wide_effect,
+use crate::computation::{
+    arithmetic_effect, atomic_effect, compare_const_effect, exchange_effect, mul_div_effect,
+    rm_reg_effect, set_cc_effect, shift_effect, swap_bytes_effect, unary_effect, xor_wide_effect,
 };
-use crate::data::{
-    arithmetic_effect, compare_const_effect, extend_effect, mem_reg_effect, mul_div_effect,
-    place_of, reg_rm_effect, rm_reg_effect, shift_effect, store_const_effect, store_low_effect,
-    unary_effect,
-};
+use crate::control::{indirect_effect, near_effect, plain_effect, short_effect, stack_effect};
+use crate::forms::{loading, storing};
 use crate::instr::Instr;
-use crate::length::len;
-use crate::parts::{loading, storing};
+use crate::moves::{
+    extend_effect, load_tls_effect, load_wide_effect, mem_reg_effect, move_cc_effect, place_of,
+    reg_rm_effect, store_const_effect, store_low_effect, store_wide_effect,
+};
 use crate::reg::Reg;
 use crate::values::{copy_of, reg_atom, signed_atom};
 use machine_effect::{Atom, Effect};
 
-/// What an instruction at `pc` does. The return address that CALL pushes and RET pops isn't in it: a machine's step
-/// adds that.
+/// What an instruction does that ends at `end`, the address just behind it. The return address that CALL pushes and RET
+/// pops isn't in it: a machine's step adds that.
 ///
 /// General registers have their numbers in spellings, and 16 is the base of thread-local storage. An L write of a
-/// register clears its upper half. An address in the effect is `pc`, the instruction's length and a distance, modulo
-/// 2^64.
-pub fn effect(instr: &Instr, pc: u64) -> Effect
-    ensures effect { result ≡ effect_of instr.now pc }
+/// register clears its upper half. An address in the effect is `end` and a distance, modulo 2^64.
+pub fn effect(instr: &Instr, end: u64) -> Effect
+    ensures effect { result ≡ effects.effect_at instr.now end }
 
     // What that says of the stack pointer.
     ensures sp { IsTrue (fits instr.now) → (flow_of result amd64_shape).sp ≡ move_of instr.now }
-    ensures near { IsTrue (fits instr.now) → IsNear (flow_of result amd64_shape).sp }
+    ensures near { IsTrue (fits instr.now) → (k : ℤ) → (flow_of result amd64_shape).sp ≡ By k → IsStackDistance k }
 {
-    effect_at(*instr, end_of(instr, pc))
-}
-
-/// The address just behind an instruction at `pc`, modulo 2^64.
-pub fn end_of(instr: &Instr, pc: u64) -> u64
-    ensures { result ≡ effects.end_of instr.now pc }
-{
-    pc.wrapping_add(u64::from(len(instr)))
+    effect_at(*instr, end)
 }
 
 #[tactic(auto, unfolding(crate::specs::Effects::effect_at))]

@@ -1,12 +1,13 @@
 ghost use Rattle.std.specs.Prelude.{◌≡◌};
 
-use crate::code::Cc;
+use crate::condition::Cc;
+use crate::memory::{Mem, Rm};
 use crate::op::{
     Arithmetic, Atomic, Extend, Indirect, MemReg, MulDiv, Near, Plain, RegRm, RmReg, ShiftOp,
     Stack, StoreSize, Unary,
 };
-use crate::operand::{Mem, Rm, Width};
 use crate::reg::Reg;
+use crate::width::Width;
 use crate::xmm::Xmm;
 
 /// An instruction of amd64, one variant for each list of operands. The bytes are those of the manual's opcode

@@ -3,7 +3,7 @@ ghost use Rattle.machine_effect.specs.Numbers.{fits as fits_bits};
 ghost use Rattle.amd64_table.specs.Fits as spec;
 
 use crate::instr::Instr;
-use crate::operand::{Mem, Rm};
+use crate::memory::{Mem, Rm};
 use crate::reg::Reg;
 
 /// Whether an instruction is listed: what its type leaves open. An index isn't SP, LOCK stands only before what writes

@@ -1,4 +1,4 @@
-use crate::code::Cc;
+use crate::condition::Cc;
 
 /// What two operands give, in the order of the manual's digits 0 to 6.
 #[derive(Clone, Copy, Debug, Default, PartialEq, Eq)]

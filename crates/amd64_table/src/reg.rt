@@ -1,5 +1,5 @@
 ghost use Rattle.std.specs.Prelude.{◌≡◌, ◌<◌};
-ghost use Rattle.amd64_table.specs.Registers.{number_of, low_bits, is_high, reg_text};
+ghost use Rattle.amd64_table.specs.Registers.{number_of, low_bits, is_high, is_byte_high, reg_text};
 ghost use Rattle.amd64_table.specs.declared.reg.Reg.{Reg};
 
 /// A general register. As an operand of one byte it has the same name.
@@ -92,6 +92,13 @@ impl Reg {
         ensures { result ≡ is_high self }
     {
         self.number() >= 8
+    }
+
+    /// Whether an operand of one byte needs REX: without it the numbers from SP on name other bytes.
+    pub fn is_byte_high(self) -> bool
+        ensures { result ≡ is_byte_high self }
+    {
+        self.number() >= 4
     }
 
     /// The register with this fourth bit and these low bits.

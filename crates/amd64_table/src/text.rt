@@ -2,31 +2,28 @@ ghost use Rattle.std.specs.Prelude.{◌≡◌, ◌++◌, IfOk, OnOk};
 ghost use Rattle.amd64_table.specs.Texts as spec;
 ghost use Rattle.amd64_table.specs.Texts.{text_of};
 
-use crate::code::Cc;
-use crate::effects::end_of;
 use crate::instr::Instr;
-use crate::operand::{Mem, Scale, Width};
-use crate::operands::{Operand, operands};
-use crate::stems::{cc_of, is_locked, stem_of, width_of};
+use crate::memory::{Mem, Scale};
+use crate::mnemonic::mnemonic_of;
+use crate::operand::{Operand, is_locked, operands_of};
 use crate::values::moved_by;
 use goasm_base::{Bytes, Memory, Text};
 use std::alloc::Global;
 
-/// The text of an instruction at `pc`, as Go's assembler writes it: `LOCK; ` where it is locked, the name, a space and
-/// the operands with `, ` between.
+/// The text of an instruction that ends at `end`, the address just behind it, as Go's assembler writes it: `LOCK; ` where
+/// it is locked, the name, a space and the operands with `, ` between.
 ///
 /// Memory is `off(R)` or `off(R)(I*s)` with a decimal offset that is left out where it's 0, and a symbol's is its
 /// address and `(SB)`. A constant is `$` and a decimal number; that of MOVL to a register has no sign. A goal is an
 /// address. Addresses are `0x` and sixteen hexadecimal digits. `Memory` comes only for want of memory.
 #[tactic(auto, unfolding(crate::specs::Texts::text_of))]
-pub fn show(alloc: Global, instr: &Instr, pc: u64) -> Result<Bytes, Memory>
-    ensures { IfOk result (λ text. text ≡ text_of instr.now pc) }
+pub fn show(alloc: Global, instr: &Instr, end: u64) -> Result<Bytes, Memory>
+    ensures { IfOk result (λ text. text ≡ text_of instr.now end) }
 {
-    let end = end_of(instr, pc);
-    let (first, second) = operands(*instr);
+    let (first, second) = operands_of(instr);
     let mut text = Text::new(alloc);
-    text.push(lock_text(is_locked(*instr)))?;
-    push_name(&mut text, *instr)?;
+    text.push(lock_text(is_locked(instr)))?;
+    mnemonic_of(instr).push_to(&mut text)?;
     push_behind(&mut text, b" ", end, first)?;
     push_behind(&mut text, b", ", end, second)?;
     Ok(text.finish())
@@ -39,27 +36,6 @@ fn lock_text(lock: bool) -> &'static [u8]
     if lock { b"LOCK; " } else { b"" }
 }
 
-#[tactic(auto, unfolding(crate::specs::Texts::width_text))]
-fn width_text(width: Option<Width>) -> &'static [u8]
-    ensures { result.now ≡ spec.width_text width }
-{
-    match width {
-        None => b"",
-        Some(Width::Q) => b"Q",
-        Some(Width::L) => b"L",
-    }
-}
-
-#[tactic(auto, unfolding(crate::specs::Texts::condition_text))]
-fn condition_text(code: Option<Cc>) -> &'static [u8]
-    ensures { result.now ≡ spec.condition_text code }
-{
-    match code {
-        None => b"",
-        Some(code) => code.name(),
-    }
-}
-
 #[tactic(auto, unfolding(crate::specs::Texts::scale_text))]
 fn scale_text(scale: Scale) -> &'static [u8]
     ensures { result.now ≡ spec.scale_text scale }
@@ -70,15 +46,6 @@ fn scale_text(scale: Scale) -> &'static [u8]
         Scale::Four => b"*4)",
         Scale::Eight => b"*8)",
     }
-}
-
-#[tactic(auto, unfolding(crate::specs::Texts::name_of))]
-fn push_name(text: &mut Text, instr: Instr) -> Result<(), Memory>
-    ensures { OnOk result (text.new ≡ text.old ++ spec.name_of instr) }
-{
-    text.push(stem_of(instr))?;
-    text.push(width_text(width_of(instr)))?;
-    text.push(condition_text(cc_of(instr)))
 }
 
 // Appends an operand behind what stands before it, where there is one.

@@ -2,9 +2,9 @@
 ghost use Rattle.std.specs.Prelude.{◌≡◌, [], ◌∷◌};
 ghost use Rattle.machine_effect.specs.Numbers.{moved_by};
 ghost use Rattle.amd64_table.specs.Operands as operands;
-ghost use Rattle.amd64_table.specs.Shapes as shapes;
+ghost use Rattle.amd64_table.specs.Forms as spec;
 
-use crate::operand::{Mem, Rm};
+use crate::memory::{Mem, Rm};
 use crate::reg::Reg;
 use arrayvec::ArrayVec;
 use machine_effect::{Access, Atom, Op, Value};
@@ -28,7 +28,7 @@ pub fn signed_atom(constant: i64) -> Atom
 }
 
 pub fn value_of(op: Op, a: Atom, b: Atom, width: u8) -> Value
-    ensures { result ≡ shapes.value_of op a b width }
+    ensures { result ≡ spec.value_of op a b width }
 {
     Value {
         op,
@@ -40,7 +40,7 @@ pub fn value_of(op: Op, a: Atom, b: Atom, width: u8) -> Value
 }
 
 pub fn copy_of(a: Atom, width: u8) -> Value
-    ensures { result ≡ shapes.copy_of a width }
+    ensures { result ≡ spec.copy_of a width }
 {
     value_of(Op::Copy, a, NOTHING, width)
 }

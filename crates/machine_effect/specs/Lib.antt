@@ -11,3 +11,4 @@ pub mod Bounds
 pub mod Steps
 pub mod OperationCases
 pub mod FlagCases
+pub mod Witness

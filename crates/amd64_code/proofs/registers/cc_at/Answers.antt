@@ -1,5 +1,5 @@
 use Rattle.std.proofs.Common.{sym}
-use Rattle.amd64_code.specs.RegisterLaws.{cc_back}
+use Rattle.amd64_code.proofs.RegisterLaws.{cc_back}
 use Rattle.amd64_code.proofs.registers.cc_at.Goals as goal
 
 pub returns : goal.returns

@@ -1,5 +1,5 @@
 use Rattle.std.proofs.Common.{sym}
-use Rattle.amd64_code.specs.RegisterLaws.{reg_back}
+use Rattle.amd64_code.proofs.RegisterLaws.{reg_back}
 use Rattle.amd64_code.proofs.registers.reg_at.Goals as goal
 
 pub returns : goal.returns

@@ -1,5 +1,5 @@
 use Rattle.std.proofs.Common.{sym}
-use Rattle.amd64_code.specs.RegisterLaws.{xmm_back}
+use Rattle.amd64_code.proofs.RegisterLaws.{xmm_back}
 use Rattle.amd64_code.proofs.registers.xmm_at.Goals as goal
 
 pub returns : goal.returns
