@@ -59,7 +59,7 @@ pub record IsBoundedAccess (access : Access) : Type 0 where
 pub record IsBoundedPair (a b : Atom) (width : ℕ) : Type 0 where
   pub first : IsBoundedAtom a
   pub second : IsBoundedAtom b
-  pub width : IsWidth width
+  pub bits : IsWidth width
 
 abbrev pub IsBoundedCond : Cond → Type 0
 IsBoundedCond (cond.Equal a b width) = IsBoundedPair a b width
