@@ -1,4 +1,5 @@
 mod PlanLemmas
+mod AnswerLemmas
 mod StatusLemmas
 mod Examples
 mod PartLemmas

@@ -6,7 +6,7 @@ use Rattle.amd64_code.specs.First.{first_in}
 use Rattle.text_dis.specs.Reading.{raw_text}
 use Rattle.goasm_run.specs.declared.architecture.Architecture.{Architecture}
 use Rattle.goasm_run.specs.declared.architecture.Architecture.TheVariants.{Amd64}
-use Rattle.goasm_run.specs.declared.limits.TheConstants.{CODE}
+use Rattle.goasm_run.specs.Limits.{code_limit}
 use Rattle.goasm_run.specs.Plan.{Plan, Ask, Tell, Refuse}
 use Rattle.goasm_run.specs.Lines.{too_long_line}
 
@@ -21,7 +21,7 @@ code_text Amd64 bytes = raw_text amd64 1 first_in bytes
 -- over the bytes that were read
 unfoldable pub bytes_answer : Architecture → List ℕ → List ℕ → Plan
 bytes_answer architecture name bytes =
-    if nat_lt CODE (length bytes) then Refuse (too_long_line name) else Tell (code_text architecture bytes)
+    if nat_lt code_limit (length bytes) then Refuse (too_long_line name) else Tell (code_text architecture bytes)
 
 abbrev pub bytes_plan : Architecture → List ℕ → Plan
-bytes_plan architecture name = Ask name CODE (bytes_answer architecture name)
+bytes_plan architecture name = Ask name code_limit (bytes_answer architecture name)

@@ -1,5 +1,9 @@
+-- What words ask for, and what a shelf and a sink tell of a call.
+pub mod Changes
 pub mod Plan
+pub mod Limits
 pub mod Lines
+-- The plan of each command.
 pub mod Lookup
 pub mod Bytes
 pub mod Parts
@@ -7,5 +11,8 @@ pub mod Sources
 pub mod Lists
 pub mod Expand
 pub mod Commands
-pub mod Stops
+-- What a status says.
 pub mod Statuses
+-- What only proofs need: the clauses of functions that `goasm_main` calls.
+pub mod Stops
+pub mod PartsRead

@@ -2,7 +2,7 @@
 use Rattle.std.specs.Prelude.{ℕ, List, nat_lt, length, Option, Some, None, if◌then◌else◌}
 use Rattle.goasm_list.specs.declared.line.ListLine.{ListLine}
 use Rattle.goasm_list.specs.Lists.{refused_line, list_of}
-use Rattle.goasm_run.specs.declared.limits.TheConstants.{LIST}
+use Rattle.goasm_run.specs.Limits.{list_limit}
 use Rattle.goasm_run.specs.Plan.{Plan, Ask, Refuse}
 use Rattle.goasm_run.specs.Lines.{too_long_line, list_line}
 
@@ -14,7 +14,7 @@ over_refusal name bytes next None = next (list_of bytes)
 -- over the bytes that were read; the plan goes on by the list's lines
 unfoldable pub list_answer : List ℕ → (List ListLine → Plan) → List ℕ → Plan
 list_answer name next bytes =
-    if nat_lt LIST (length bytes) then Refuse (too_long_line name) else over_refusal name bytes next (refused_line bytes)
+    if nat_lt list_limit (length bytes) then Refuse (too_long_line name) else over_refusal name bytes next (refused_line bytes)
 
 abbrev pub list_plan : List ℕ → (List ListLine → Plan) → Plan
-list_plan name next = Ask name LIST (list_answer name next)
+list_plan name next = Ask name list_limit (list_answer name next)

@@ -7,7 +7,7 @@ use Rattle.pcvalue.specs.declared.answer.Answer.TheVariants.{Absent, Value, Past
 use Rattle.pclntab.specs.declared.fault.TableNo.{TableNo}
 use Rattle.pclntab.specs.Faults.{table_fault}
 use Rattle.pclntab.specs.Func.{func_at, name_of, depth_at, line_at, file_at}
-use Rattle.goasm_run.specs.declared.limits.TheConstants.{TABLE}
+use Rattle.goasm_run.specs.Limits.{table_limit}
 use Rattle.goasm_run.specs.Plan.{Plan, Ask, Tell, Refuse}
 use Rattle.goasm_text.specs.Lines.{newline, table_line}
 use Rattle.goasm_run.specs.Lines.{too_long_line, no_function_line}
@@ -40,8 +40,8 @@ lookup_over name pc bytes None = lookup_in name pc bytes (func_at bytes pc)
 -- over the bytes that were read
 unfoldable pub lookup_answer : List ℕ → ℕ → List ℕ → Plan
 lookup_answer name pc bytes =
-    if nat_lt TABLE (length bytes) then Refuse (too_long_line name)
+    if nat_lt table_limit (length bytes) then Refuse (too_long_line name)
     else lookup_over name pc bytes (table_fault bytes)
 
 abbrev pub lookup_plan : List ℕ → ℕ → Plan
-lookup_plan name pc = Ask name TABLE (lookup_answer name pc)
+lookup_plan name pc = Ask name table_limit (lookup_answer name pc)

@@ -1,6 +1,7 @@
 -- What words ask for: which files are read, in which order and up to which length, and then a text or a refusal.
 use Rattle.std.specs.Prelude.{◌≡◌, ◌⊎◌, ℕ, List, ◌+◌, ◌≤◌, length, Option, Some, None}
-use Rattle.goasm_base.specs.Shelf.{Files, read_of, Reads}
+use Rattle.goasm_base.specs.Shelf.{Files, read_of, Reads, counted}
+use Rattle.goasm_run.specs.Changes.{ShelfChange, FailsToRead, ReadsAll}
 
 pub data Plan : Type 0 where
   -- read the first bytes of the named file, one more than its limit, and go on by them
@@ -18,23 +19,53 @@ pub data Ending : Type 0 where
   Refusal : (line : List ℕ) → Ending
   NoForm : Ending
 
+-- Below, each read of a plan counts one, and all of them lead from the count `before` to the count `now`. So a plan that
+-- asks for two files makes two reads: none is tried again, none is left out, and no other file is read.
+
 -- a plan may come to an ending over some answers of the shelf; where the shelf tells its files, the answers are
 -- what these hold, and the ending is the one that `ending_of` gives
-abbrev pub ComesTo : Option Files → Plan → Ending → Type 0
-ComesTo told (Ask name limit next) ending =
-    (bytes : List ℕ) × Reads told name limit bytes × (length bytes ≤ limit + 1) × ComesTo told (next bytes) ending
-ComesTo told (Tell text) ending = Text text ≡ ending
-ComesTo told (Refuse line) ending = Refusal line ≡ ending
-ComesTo told Malformed ending = NoForm ≡ ending
+abbrev pub ComesTo : Option Files → Plan → ℕ → ℕ → Ending → Type 0
+ComesTo told (Ask name limit next) before now ending =
+    (bytes : List ℕ) × Reads told name limit bytes × (length bytes ≤ limit + 1)
+    × ComesTo told (next bytes) (counted 1 before) now ending
+ComesTo told (Tell text) before now ending = (Text text ≡ ending) × (now ≡ before)
+ComesTo told (Refuse line) before now ending = (Refusal line ≡ ending) × (now ≡ before)
+ComesTo told Malformed before now ending = (NoForm ≡ ending) × (now ≡ before)
 
--- a plan comes to ask for a file of this name, after reads that the shelf answered
-abbrev pub AsksFor : Option Files → Plan → List ℕ → Type 0
-AsksFor told (Ask asked limit next) name =
-    (asked ≡ name)
-    ⊎ ((bytes : List ℕ) × Reads told asked limit bytes × (length bytes ≤ limit + 1) × AsksFor told (next bytes) name)
-AsksFor told (Tell text) name = ⊥
-AsksFor told (Refuse line) name = ⊥
-AsksFor told Malformed name = ⊥
+-- a plan comes to ask for a file of this name, after reads that the shelf answered; that read is the last that is counted
+abbrev pub AsksFor : Option Files → Plan → ℕ → ℕ → List ℕ → Type 0
+AsksFor told (Ask asked limit next) before now name =
+    ((asked ≡ name) × (now ≡ counted 1 before))
+    ⊎ ((bytes : List ℕ) × Reads told asked limit bytes × (length bytes ≤ limit + 1)
+    × AsksFor told (next bytes) (counted 1 before) now name)
+AsksFor told (Tell text) before now name = ⊥
+AsksFor told (Refuse line) before now name = ⊥
+AsksFor told Malformed before now name = ⊥
+
+-- a plan makes its first reads, one at least; the shelf answered all of them but the last, of which nothing is said
+abbrev pub MakesSome : Option Files → Plan → ℕ → ℕ → Type 0
+MakesSome told (Ask name limit next) before now =
+    (now ≡ counted 1 before)
+    ⊎ ((bytes : List ℕ) × Reads told name limit bytes × (length bytes ≤ limit + 1)
+    × MakesSome told (next bytes) (counted 1 before) now)
+MakesSome told (Tell text) before now = ⊥
+MakesSome told (Refuse line) before now = ⊥
+MakesSome told Malformed before now = ⊥
+
+-- the reads that a call made are the first ones of the plan, or there was none
+abbrev pub MakesReads : ShelfChange → Plan → Type 0
+MakesReads shelf plan =
+    (shelf.reads_now ≡ shelf.reads_before) ⊎ MakesSome shelf.holds plan shelf.reads_before shelf.reads_now
+
+-- a call made all reads of the plan, none of which failed, and came to this ending
+abbrev pub EndsIn : ShelfChange → Plan → Ending → Type 0
+EndsIn shelf plan ending =
+    ComesTo shelf.holds plan shelf.reads_before shelf.reads_now ending × ReadsAll shelf
+
+-- a call made the reads of the plan up to one of this name, which failed
+abbrev pub StopsAt : ShelfChange → Plan → List ℕ → Type 0
+StopsAt shelf plan name =
+    AsksFor shelf.holds plan shelf.reads_before shelf.reads_now name × FailsToRead shelf name
 
 -- the ending over these files; `None` where a file is asked for that they don't have
 abbrev pub after_read : (List ℕ → Option Ending) → Option (List ℕ) → Option Ending

@@ -17,7 +17,7 @@ use Rattle.goasm_run.specs.declared.sources.Sources as sources
 use Rattle.goasm_run.specs.declared.part.Role.{Role}
 use Rattle.goasm_run.specs.declared.part.Role.TheVariants as roles
 use Rattle.goasm_run.specs.declared.part.Part.{Part}
-use Rattle.goasm_run.specs.declared.limits.TheConstants.{SOURCE}
+use Rattle.goasm_run.specs.Limits.{source_limit}
 use Rattle.goasm_run.specs.Lines.{too_long_line}
 
 -- what a build has as tokens: sources, files that they include, and values of macros by their names
@@ -64,7 +64,7 @@ lexed_or names tokens None = Ok tokens
 -- a file is lexed where it isn't too long
 unfoldable pub lexed_file : List (List ℕ) → Part → Result Tokens (List ℕ)
 lexed_file names part =
-    if nat_lt SOURCE (length part.bytes) then Err (too_long_line part.name)
+    if nat_lt source_limit (length part.bytes) then Err (too_long_line part.name)
     else lexed_or names (tokens_of part.file part.bytes) (refusal_of part.file part.bytes)
 
 -- a value is lexed as a file of its line alone would be

@@ -1,23 +1,37 @@
 -- What each status says of the words, the files, the standard output and the standard error.
-use Rattle.std.specs.Prelude.{◌≡◌, ◌⊎◌, ℕ, List, Option}
-use Rattle.goasm_base.specs.Shelf.{Files, Rose}
-use Rattle.goasm_base.specs.Sink.{with_more, TookPrefix}
+use Rattle.std.specs.Prelude.{◌≡◌, ◌⊎◌, ℕ, List}
 use Rattle.goasm_run.specs.declared.stop.Stop.{Stop}
 use Rattle.goasm_run.specs.declared.stop.Stop.TheVariants as stops
-use Rattle.goasm_run.specs.Plan.{Plan, Malformed, Refusal, ComesTo, AsksFor}
+use Rattle.goasm_run.specs.Changes.{ShelfChange, SinkChange, Takes, FailsToTake, TakesNothing}
+use Rattle.goasm_run.specs.Plan.{Plan, Malformed, Text, Refusal, EndsIn, StopsAt}
 use Rattle.goasm_run.specs.Lines.{words_line, memory_line, unread_line}
 
--- the plan asks for a file of this name, and a read of that name failed between these counts of faults
-abbrev pub Unread : Option Files → (List ℕ → ℕ) → (List ℕ → ℕ) → Plan → List ℕ → Type 0
-Unread told before now plan name = AsksFor told plan name × Rose (before name) (now name)
-
 -- a line that says why there is no text
-abbrev pub SaysWhy : Option Files → (List ℕ → ℕ) → (List ℕ → ℕ) → Plan → List ℕ → Type 0
-SaysWhy told before now plan line =
-    ComesTo told plan (Refusal line)
-    ⊎ ((plan ≡ Malformed) × (line ≡ words_line))
-    ⊎ (line ≡ memory_line)
-    ⊎ ((name : List ℕ) × Unread told before now plan name × (line ≡ unread_line name))
+pub data SaysWhy (shelf : ShelfChange) (plan : Plan) (line : List ℕ) : Type 0 where
+  SaysRefusal : EndsIn shelf plan (Refusal line) → SaysWhy shelf plan line
+  SaysWords : plan ≡ Malformed → line ≡ words_line → SaysWhy shelf plan line
+  SaysMemory : line ≡ memory_line → SaysWhy shelf plan line
+  SaysUnread : (name : List ℕ) → StopsAt shelf plan name → line ≡ unread_line name → SaysWhy shelf plan line
+
+-- the standard output failed in the plan's text, and nothing is said
+pub record OutFailed (shelf : ShelfChange) (plan : Plan) (out err : SinkChange) : Type 0 where
+  pub text : List ℕ
+  pub ends : EndsIn shelf plan (Text text)
+  pub fails : FailsToTake out text
+  pub unsaid : TakesNothing err
+
+-- the standard error failed in the line that says why there is no text
+pub record ErrFailed (shelf : ShelfChange) (plan : Plan) (out err : SinkChange) : Type 0 where
+  pub line : List ℕ
+  pub why : SaysWhy shelf plan line
+  pub fails : FailsToTake err line
+  pub unwritten : TakesNothing out
+
+-- why an answer of the plan isn't told, and by which status: memory was wanting, a read failed, or the standard error failed
+pub data KeptBack (status : ℕ) (shelf : ShelfChange) (plan : Plan) (out err : SinkChange) : Type 0 where
+  NoMemory : status ≡ 3 → KeptBack status shelf plan out err
+  NoFile : (name : List ℕ) → status ≡ 4 → StopsAt shelf plan name → KeptBack status shelf plan out err
+  NoLine : status ≡ 5 → ErrFailed shelf plan out err → KeptBack status shelf plan out err
 
 -- a stop is told by this line, and ends with this status where the line is taken; without memory for the line of a
 -- file that couldn't be read, it is told as want of memory
@@ -28,9 +42,12 @@ IsToldBy stops.Memory status line = (status ≡ 3) × (line ≡ memory_line)
 IsToldBy (stops.Unread name) status line =
     ((status ≡ 4) × (line ≡ unread_line name)) ⊎ ((status ≡ 3) × (line ≡ memory_line))
 
--- a sink took the line that tells a stop, or failed at it; the status is the stop's, or 5
-abbrev pub Told : Stop → ℕ → Option (List ℕ) → Option (List ℕ) → ℕ → ℕ → Type 0
-Told stop result taken_before taken_now faults_before faults_now =
-    (status : ℕ) × (line : List ℕ) × IsToldBy stop status line
-    × (((result ≡ status) × (taken_now ≡ with_more taken_before line))
-    ⊎ ((result ≡ 5) × Rose faults_before faults_now × TookPrefix taken_before taken_now line))
+-- a sink took the line, or failed in it; the result is the status, or 5
+abbrev pub IsWritten : SinkChange → ℕ → ℕ → List ℕ → Type 0
+IsWritten sink result status line =
+    ((result ≡ status) × Takes sink line) ⊎ ((result ≡ 5) × FailsToTake sink line)
+
+-- a sink took the line that tells a stop, or failed in it
+abbrev pub Told : SinkChange → Stop → ℕ → Type 0
+Told sink stop result =
+    (status : ℕ) × (line : List ℕ) × IsToldBy stop status line × IsWritten sink result status line

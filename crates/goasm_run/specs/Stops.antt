@@ -1,16 +1,23 @@
--- What it means that a command ended without a text.
-use Rattle.std.specs.Prelude.{◌≡◌, ◌≢◌, ℕ, List, Option}
-use Rattle.goasm_base.specs.Shelf.{Files, Rose}
+-- What it means that a command ended with a text, or without one.
+use Rattle.std.specs.Prelude.{◌≡◌, ◌≢◌, ℕ, List, ◌+◌, ◌≤◌, length, Result, Err, IfOk, IfErr}
+use Rattle.goasm_base.specs.Shelf.{Reads}
 use Rattle.goasm_run.specs.declared.stop.Stop.{Stop}
 use Rattle.goasm_run.specs.declared.stop.Stop.TheVariants as stops
-use Rattle.goasm_run.specs.Plan.{Plan, Refuse, Malformed, ComesTo, AsksFor, Refusal}
+use Rattle.goasm_run.specs.Changes.{ShelfChange, FailsToRead, ReadsAll}
+use Rattle.goasm_run.specs.Plan.{Plan, Tell, Refuse, Malformed, Text, Refusal, MakesReads, EndsIn, StopsAt}
 
--- a read of this name ended so, between these counts of faults
-abbrev pub ReadStopped : (List ℕ → ℕ) → (List ℕ → ℕ) → List ℕ → Stop → Type 0
-ReadStopped before now name (stops.Refused line) = ⊥
-ReadStopped before now name stops.Words = ⊥
-ReadStopped before now name stops.Memory = Unit {0}
-ReadStopped before now name (stops.Unread file) = (file ≡ name) × Rose (before name) (now name)
+-- a read of this name gave these bytes
+pub record IsRead (shelf : ShelfChange) (name : List ℕ) (limit : ℕ) (bytes : List ℕ) : Type 0 where
+  pub given : Reads shelf.holds name limit bytes
+  pub short : length bytes ≤ limit + 1
+  pub unfailed : ReadsAll shelf
+
+-- a read of this name ended so
+abbrev pub ReadStopped : ShelfChange → List ℕ → Stop → Type 0
+ReadStopped shelf name (stops.Refused line) = ⊥
+ReadStopped shelf name stops.Words = ⊥
+ReadStopped shelf name stops.Memory = Unit {0}
+ReadStopped shelf name (stops.Unread file) = (file ≡ name) × FailsToRead shelf name
 
 -- an answer that reads nothing ended so
 abbrev pub AnswerStopped : Plan → Stop → Type 0
@@ -19,16 +26,24 @@ AnswerStopped plan stops.Words = ⊥
 AnswerStopped plan stops.Memory = Unit {0}
 AnswerStopped plan (stops.Unread file) = ⊥
 
--- a command of this plan ended so
-abbrev pub Stopped : Option Files → (List ℕ → ℕ) → (List ℕ → ℕ) → Plan → Stop → Type 0
-Stopped told before now plan (stops.Refused line) = ComesTo told plan (Refusal line)
-Stopped told before now plan stops.Words = ⊥
-Stopped told before now plan stops.Memory = Unit {0}
-Stopped told before now plan (stops.Unread name) = AsksFor told plan name × Rose (before name) (now name)
+-- an answer that reads nothing is the plan's
+pub record Gives (plan : Plan) (result : Result (List ℕ) Stop) : Type 0 where
+  pub text : IfOk result (λ text. plan ≡ Tell text)
+  pub stopped : IfErr result (AnswerStopped plan)
 
--- the words' command ended so, or they have no command's form; to judge that takes no memory
-abbrev pub WordsStopped : Option Files → (List ℕ → ℕ) → (List ℕ → ℕ) → Plan → Stop → Type 0
-WordsStopped told before now plan (stops.Refused line) = ComesTo told plan (Refusal line)
-WordsStopped told before now plan stops.Words = plan ≡ Malformed
-WordsStopped told before now plan stops.Memory = plan ≢ Malformed
-WordsStopped told before now plan (stops.Unread name) = AsksFor told plan name × Rose (before name) (now name)
+-- a command of this plan ended so
+abbrev pub Stopped : ShelfChange → Plan → Stop → Type 0
+Stopped shelf plan (stops.Refused line) = EndsIn shelf plan (Refusal line)
+Stopped shelf plan stops.Words = ⊥
+Stopped shelf plan stops.Memory = MakesReads shelf plan
+Stopped shelf plan (stops.Unread name) = StopsAt shelf plan name
+
+-- a command's answer is the plan's
+pub record Answers (shelf : ShelfChange) (plan : Plan) (result : Result (List ℕ) Stop) : Type 0 where
+  pub text : IfOk result (λ text. EndsIn shelf plan (Text text))
+  pub stopped : IfErr result (Stopped shelf plan)
+
+-- the answer to the words is the plan's; to see that they have no command's form takes no read and no memory
+pub record AnswersWords (shelf : ShelfChange) (plan : Plan) (result : Result (List ℕ) Stop) : Type 0 where
+  pub answers : plan ≢ Malformed → Answers shelf plan result
+  pub words : plan ≡ Malformed → (result ≡ Err stops.Words) × (shelf.reads_now ≡ shelf.reads_before)

@@ -6,7 +6,6 @@ mod architecture;
 mod bytes_tests;
 mod command;
 mod commands;
-mod dispatch;
 #[cfg(test)]
 mod expand_tests;
 mod limits;
@@ -14,6 +13,7 @@ mod lines;
 mod list;
 mod part;
 mod parts;
+mod program;
 mod read;
 mod sources;
 mod stop;
@@ -21,8 +21,7 @@ mod stop;
 mod test_runs;
 #[cfg(test)]
 mod tests;
-mod top;
 mod words;
 
-pub use top::goasm_main;
+pub use program::goasm_main::goasm_main;
 pub use words::Words;

@@ -1,18 +1,19 @@
-ghost use Rattle.std.specs.Prelude.{◌≡◌, ℕ, List, [], ◌∷◌, ◌++◌, ◌+◌, ◌≤◌, ◌⊎◌, length, IfOk, IfErr};
-ghost use Rattle.goasm_base.specs.Shelf.{Reads};
+ghost use Rattle.std.specs.Prelude.{◌≡◌, ◌⊎◌, List, [], ◌∷◌, ◌+◌, ◌≤◌, IfOk, IfErr};
+ghost use Rattle.goasm_base.specs.Shelf.{counted};
 ghost use Rattle.goasm_list.specs.Rules.{file_count};
-ghost use Rattle.goasm_list.specs.declared.line.LineKind.TheVariants.{Asm, Include};
 ghost use Rattle.goasm_run.specs.declared.part.Part.{Part};
-ghost use Rattle.goasm_run.specs.Plan.{Plan, Ending, ComesTo};
-ghost use Rattle.goasm_run.specs.Parts.{file_part, value_part, ask_parts, Leads, LineStopped, PartsStopped};
-ghost use Rattle.goasm_run.specs.Stops.{ReadStopped};
-ghost use Rattle.goasm_run.specs.declared.limits.TheConstants.{SOURCE};
+ghost use Rattle.goasm_run.specs.Limits.{source_limit};
+ghost use Rattle.goasm_run.specs.Changes.{shelf_change, ReadsAll};
+ghost use Rattle.goasm_run.specs.Plan.{Plan};
+ghost use Rattle.goasm_run.specs.Parts.{file_part, value_part, ask_parts};
+ghost use Rattle.goasm_run.specs.Stops.{IsRead, ReadStopped};
+ghost use Rattle.goasm_run.specs.PartsRead.{LeadsTo, LineLeads, LineStopped, PartsStopped};
 
 use crate::limits;
 use crate::part::{Part, Role};
 use crate::read::read_named;
 use crate::stop::Stop;
-use goasm_base::{Bytes, Memory, Shelf};
+use goasm_base::{Memory, Shelf};
 use goasm_list::{LineKind, ListLine};
 use std::alloc::Global;
 
@@ -23,17 +24,15 @@ pub fn read_parts<F: Shelf>(
     lines: &[ListLine],
 ) -> Result<Vec<Part>, Stop>
     requires { file_count lines.now ≤ 1000 }
-    ensures parts { IfOk result (λ parts. (next : List Part → Plan) (ending : Ending)
-        → ComesTo (F.holds shelf.old) (next parts.items) ending
-        → ComesTo (F.holds shelf.old) (ask_parts 1 lines.now [] next) ending) }
-    ensures stopped { IfErr result (PartsStopped (F.holds shelf.old) (F.faults shelf.old) (F.faults shelf.new) lines.now) }
+    ensures leads { IfOk result (λ parts. (next : List Part → Plan)
+        → LeadsTo (F.holds shelf.old) (ask_parts 1 lines.now [] next) (F.reads shelf.old) (next parts.items) (F.reads shelf.new)) }
+    ensures unfailed { IfOk result (λ _. ReadsAll (shelf_change F.holds F.faults F.reads shelf.old shelf.new)) }
+    ensures stopped { IfErr result (PartsStopped (shelf_change F.holds F.faults F.reads shelf.old shelf.new) lines.now) }
 {
     let mut parts = Vec::new(alloc);
     let mut number: u32 = 1;
-    let mut rest = lines;
-    while let Some((line, behind)) = rest.split_first() {
+    for line in lines {
         number = read_line(alloc, shelf, number, line, &mut parts)?;
-        rest = behind;
     }
     Ok(parts)
 }
@@ -47,11 +46,12 @@ fn read_line<F: Shelf>(
     parts: &mut Vec<Part>,
 ) -> Result<u32, Stop>
     requires { number + file_count (line.now ∷ []) ≤ 1001 }
-    ensures leads { IfOk result (λ next. Leads (F.holds shelf.old) line.now number parts.old.items next parts.new.items) }
+    ensures leads { IfOk result (λ next. LineLeads (F.holds shelf.old) line.now
+        number parts.old.items (F.reads shelf.old) next parts.new.items (F.reads shelf.new)) }
     ensures next { IfOk result (λ next. next ≤ number + file_count (line.now ∷ [])) }
-    ensures stopped { IfErr result (LineStopped (F.holds shelf.old) (F.faults shelf.old) (F.faults shelf.new) line.now number parts.old.items) }
+    ensures unfailed { IfOk result (λ _. ReadsAll (shelf_change F.holds F.faults F.reads shelf.old shelf.new)) }
+    ensures stopped { IfErr result (LineStopped (shelf_change F.holds F.faults F.reads shelf.old shelf.new) line.now number parts.old.items) }
     ensures same { F.holds shelf.new ≡ F.holds shelf.old }
-    ensures faults { (n : List ℕ) → F.faults shelf.old n ≤ F.faults shelf.new n }
 {
     match line.kind {
         LineKind::Asm => {
@@ -79,14 +79,12 @@ fn read_file<F: Shelf>(
     line: &ListLine,
 ) -> Result<Part, Stop>
     ensures part { IfOk result (λ part. part ≡ file_part role number line.now part.bytes) }
-    ensures bytes { IfOk result (λ part. Reads (F.holds shelf.old) line.now.name SOURCE part.bytes) }
-    ensures short { IfOk result (λ part. length part.bytes ≤ SOURCE + 1) }
+    ensures read { IfOk result (λ part. IsRead (shelf_change F.holds F.faults F.reads shelf.old shelf.new) line.now.name source_limit part.bytes) }
+    ensures stopped { IfErr result (ReadStopped (shelf_change F.holds F.faults F.reads shelf.old shelf.new) line.now.name) }
     ensures same { F.holds shelf.new ≡ F.holds shelf.old }
-    ensures faults { (n : List ℕ) → F.faults shelf.old n ≤ F.faults shelf.new n }
-    ensures stopped { IfErr result (ReadStopped (F.faults shelf.old) (F.faults shelf.new) line.now.name) }
+    ensures counted { F.reads shelf.new ≡ counted 1 (F.reads shelf.old) }
 {
-    let name = Bytes::new(Vec::from_slice(alloc, line.name.as_slice())?);
-    let bytes = read_named(alloc, shelf, &name, limits::SOURCE)?;
+    let bytes = read_named(alloc, shelf, line.name.as_slice(), limits::SOURCE)?;
     Ok(Part {
         role,
         file: number,

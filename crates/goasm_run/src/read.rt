@@ -1,6 +1,7 @@
-ghost use Rattle.std.specs.Prelude.{◌≡◌, ℕ, List, ◌+◌, ◌≤◌, length, IfOk, IfErr};
-ghost use Rattle.goasm_base.specs.Shelf.{Reads};
-ghost use Rattle.goasm_run.specs.Stops.{ReadStopped};
+ghost use Rattle.std.specs.Prelude.{◌≡◌, IfOk, IfErr};
+ghost use Rattle.goasm_base.specs.Shelf.{counted};
+ghost use Rattle.goasm_run.specs.Changes.{shelf_change};
+ghost use Rattle.goasm_run.specs.Stops.{IsRead, ReadStopped};
 
 use crate::stop::Stop;
 use goasm_base::{Bytes, Shelf, ShelfNo};
@@ -10,18 +11,17 @@ use std::alloc::Global;
 pub fn read_named<F: Shelf>(
     alloc: Global,
     shelf: &mut F,
-    name: &Bytes,
+    name: &[u8],
     limit: usize,
 ) -> Result<Bytes, Stop>
-    ensures bytes { IfOk result (Reads (F.holds shelf.old) name.now limit) }
-    ensures short { IfOk result (λ bytes. length bytes ≤ limit + 1) }
+    ensures read { IfOk result (IsRead (shelf_change F.holds F.faults F.reads shelf.old shelf.new) name.now limit) }
+    ensures stopped { IfErr result (ReadStopped (shelf_change F.holds F.faults F.reads shelf.old shelf.new) name.now) }
     ensures same { F.holds shelf.new ≡ F.holds shelf.old }
-    ensures faults { (n : List ℕ) → F.faults shelf.old n ≤ F.faults shelf.new n }
-    ensures stopped { IfErr result (ReadStopped (F.faults shelf.old) (F.faults shelf.new) name.now) }
+    ensures counted { F.reads shelf.new ≡ counted 1 (F.reads shelf.old) }
 {
-    match shelf.read(alloc, name.as_slice(), limit) {
+    match shelf.read(alloc, name, limit) {
         Ok(bytes) => Ok(bytes),
         Err(ShelfNo::Memory) => Err(Stop::Memory),
-        Err(ShelfNo::Failed) => Err(Stop::Unread(name.copy(alloc)?)),
+        Err(ShelfNo::Failed) => Err(Stop::Unread(Bytes::new(Vec::from_slice(alloc, name)?))),
     }
 }

@@ -1,9 +1,9 @@
-ghost use Rattle.std.specs.Prelude.{◌≡◌, IfOk, IfErr};
+ghost use Rattle.std.specs.Prelude.{◌≡◌, IfOk};
 ghost use Rattle.text_dis.specs.Reading.{raw_text};
 ghost use Rattle.amd64_code.specs.InstructionSet.{amd64};
 ghost use Rattle.amd64_code.specs.First.{first_in};
-ghost use Rattle.goasm_run.specs.Plan.{Tell, Text as Told, ComesTo};
-ghost use Rattle.goasm_run.specs.Stops.{AnswerStopped, Stopped};
+ghost use Rattle.goasm_run.specs.Changes.{shelf_change};
+ghost use Rattle.goasm_run.specs.Stops.{Gives, Answers};
 ghost use Rattle.goasm_run.specs.Bytes.{code_text, bytes_answer, bytes_plan};
 
 use crate::architecture::Architecture;
@@ -20,15 +20,12 @@ pub fn bytes<F: Shelf>(
     alloc: Global,
     shelf: &mut F,
     architecture: Architecture,
-    file: &Bytes,
+    file: &[u8],
 ) -> Result<Bytes, Stop>
-    ensures text { IfOk result (λ text. ComesTo (F.holds shelf.old) (bytes_plan architecture file.now) (Told text)) }
-    ensures stopped { IfErr result (Stopped (F.holds shelf.old) (F.faults shelf.old) (F.faults shelf.new) (bytes_plan architecture file.now)) }
+    ensures { Answers (shelf_change F.holds F.faults F.reads shelf.old shelf.new) (bytes_plan architecture file.now) result }
 {
-    match read_named(alloc, shelf, file, limits::CODE) {
-        Ok(bytes) => answer(alloc, architecture, file.as_slice(), bytes.as_slice()),
-        Err(stop) => Err(stop),
-    }
+    let bytes = read_named(alloc, shelf, file, limits::CODE)?;
+    answer(alloc, architecture, file, bytes.as_slice())
 }
 
 // The text over the bytes that were read, or the first refusal.
@@ -39,8 +36,7 @@ fn answer(
     name: &[u8],
     bytes: &[u8],
 ) -> Result<Bytes, Stop>
-    ensures text { IfOk result (λ text. bytes_answer architecture name.now bytes.now ≡ Tell text) }
-    ensures stopped { IfErr result (AnswerStopped (bytes_answer architecture name.now bytes.now)) }
+    ensures { Gives (bytes_answer architecture name.now bytes.now) result }
 {
     if bytes.len() > limits::CODE {
         return Err(Stop::Refused(lines::too_long(alloc, name)?));

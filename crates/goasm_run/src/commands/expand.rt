@@ -3,8 +3,8 @@ ghost use Rattle.goasm_base.specs.Shelf.{Reads};
 ghost use Rattle.asm_macro.specs.Builds.{greatest_file, line_names_of, outcome_of};
 ghost use Rattle.goasm_run.specs.declared.stop.Stop.TheVariants as stops;
 ghost use Rattle.goasm_list.specs.Rules.{file_count};
-ghost use Rattle.goasm_run.specs.Plan.{Tell, Text as Told, ComesTo};
-ghost use Rattle.goasm_run.specs.Stops.{AnswerStopped, Stopped};
+ghost use Rattle.goasm_run.specs.Changes.{shelf_change};
+ghost use Rattle.goasm_run.specs.Stops.{Gives, Answers};
 ghost use Rattle.goasm_run.specs.Lists.{list_answer};
 ghost use Rattle.goasm_run.specs.Sources.{seen, AreFormed};
 ghost use Rattle.goasm_run.specs.Expand as spec;
@@ -25,14 +25,11 @@ use goasm_text::{Refusal, line_of, push_place};
 use std::alloc::Global;
 
 /// `expand LIST`: every statement of the sources after macros, inclusions and conditions, each with its file and line.
-pub fn expand<F: Shelf>(alloc: Global, shelf: &mut F, list: &Bytes) -> Result<Bytes, Stop>
-    ensures text { IfOk result (λ text. ComesTo (F.holds shelf.old) (expand_plan list.now) (Told text)) }
-    ensures stopped { IfErr result (Stopped (F.holds shelf.old) (F.faults shelf.old) (F.faults shelf.new) (expand_plan list.now)) }
+pub fn expand<F: Shelf>(alloc: Global, shelf: &mut F, list: &[u8]) -> Result<Bytes, Stop>
+    ensures { Answers (shelf_change F.holds F.faults F.reads shelf.old shelf.new) (expand_plan list.now) result }
 {
-    match read_named(alloc, shelf, list, limits::LIST) {
-        Ok(bytes) => over_list(alloc, shelf, list.as_slice(), bytes.as_slice()),
-        Err(stop) => Err(stop),
-    }
+    let bytes = read_named(alloc, shelf, list, limits::LIST)?;
+    over_list(alloc, shelf, list, bytes.as_slice())
 }
 
 // The text over the bytes of the list, or the first refusal.
@@ -42,13 +39,10 @@ fn over_list<F: Shelf>(
     name: &[u8],
     bytes: &[u8],
 ) -> Result<Bytes, Stop>
-    ensures text { IfOk result (λ text. ComesTo (F.holds shelf.old) (list_answer name.now (expand_lines name.now) bytes.now) (Told text)) }
-    ensures stopped { IfErr result (Stopped (F.holds shelf.old) (F.faults shelf.old) (F.faults shelf.new) (list_answer name.now (expand_lines name.now) bytes.now)) }
+    ensures { Answers (shelf_change F.holds F.faults F.reads shelf.old shelf.new) (list_answer name.now (expand_lines name.now) bytes.now) result }
 {
-    match lines_of(alloc, name, bytes) {
-        Ok(list) => over_lines(alloc, shelf, name, list.lines.as_slice()),
-        Err(stop) => Err(stop),
-    }
+    let list = lines_of(alloc, name, bytes)?;
+    over_lines(alloc, shelf, name, list.lines.as_slice())
 }
 
 // The text over the lines of the list, or the first refusal.
@@ -59,32 +53,25 @@ fn over_lines<F: Shelf>(
     lines: &[ListLine],
 ) -> Result<Bytes, Stop>
     requires { file_count lines.now ≤ 1000 }
-    ensures text { IfOk result (λ text. ComesTo (F.holds shelf.old) (expand_lines name.now lines.now) (Told text)) }
-    ensures stopped { IfErr result (Stopped (F.holds shelf.old) (F.faults shelf.old) (F.faults shelf.new) (expand_lines name.now lines.now)) }
+    ensures { Answers (shelf_change F.holds F.faults F.reads shelf.old shelf.new) (expand_lines name.now lines.now) result }
 {
-    match read_parts(alloc, shelf, lines) {
-        Ok(parts) => answer(alloc, name, parts.as_slice()),
-        Err(stop) => Err(stop),
-    }
+    let parts = read_parts(alloc, shelf, lines)?;
+    answer(alloc, name, parts.as_slice())
 }
 
 // The text over the parts of the build, or the first refusal.
 #[tactic(auto, unfolding(crate::specs::Expand::expand_answer))]
 fn answer(alloc: Global, name: &[u8], parts: &[Part]) -> Result<Bytes, Stop>
-    ensures text { IfOk result (λ text. expand_answer name.now parts.now ≡ Tell text) }
-    ensures stopped { IfErr result (AnswerStopped (expand_answer name.now parts.now)) }
+    ensures { Gives (expand_answer name.now parts.now) result }
 {
     let names = file_names(alloc, name, parts)?;
-    match lexed(alloc, names.as_slice(), parts) {
-        Ok(sources) => over_tokens(alloc, names, &sources),
-        Err(stop) => Err(stop),
-    }
+    let sources = lexed(alloc, names.as_slice(), parts)?;
+    over_tokens(alloc, names, &sources)
 }
 
 fn over_tokens(alloc: Global, names: Vec<Name>, found: &Sources) -> Result<Bytes, Stop>
     requires { AreFormed (seen found.now) }
-    ensures text { IfOk result (λ text. over_sources names.items (Ok (seen found.now)) ≡ Tell text) }
-    ensures stopped { IfErr result (AnswerStopped (over_sources names.items (Ok (seen found.now)))) }
+    ensures { Gives (over_sources names.items (Ok (seen found.now))) result }
 {
     let sources = found.sources.as_slice();
     let includes = found.includes.as_slice();
@@ -103,10 +90,8 @@ fn over_files(alloc: Global, files: &[Name], found: &Sources) -> Result<Bytes, S
     requires formed { AreFormed (seen found.now) }
     requires room { greatest_file (seen found.now).sources (seen found.now).includes (seen found.now).defines
         + length (line_names_of (seen found.now).sources (seen found.now).includes) < 2 ^ 32 }
-    ensures text { IfOk result (λ text. over_outcome files.now
-        (outcome_of (seen found.now).sources (seen found.now).includes (seen found.now).defines) ≡ Tell text) }
-    ensures stopped { IfErr result (AnswerStopped (over_outcome files.now
-        (outcome_of (seen found.now).sources (seen found.now).includes (seen found.now).defines))) }
+    ensures { Gives (over_outcome files.now
+        (outcome_of (seen found.now).sources (seen found.now).includes (seen found.now).defines)) result }
 {
     match asm_macro::expand(
         alloc,

@@ -1,8 +1,8 @@
 ghost use Rattle.std.specs.Prelude.{◌≡◌, ◌^◌, ◌<◌, length, unwrap_or, codes, IfOk, IfErr, OnOk, ◌++◌};
 ghost use Rattle.goasm_base.specs.Shelf.{Reads};
 ghost use Rattle.pclntab.specs.Func.{func_at, HasPc};
-ghost use Rattle.goasm_run.specs.Plan.{Tell, Text as Told, ComesTo};
-ghost use Rattle.goasm_run.specs.Stops.{AnswerStopped, Stopped};
+ghost use Rattle.goasm_run.specs.Changes.{shelf_change};
+ghost use Rattle.goasm_run.specs.Stops.{Gives, Answers};
 ghost use Rattle.goasm_run.specs.Lookup.{value_text, lookup_text, lookup_in, lookup_answer, lookup_plan};
 
 use crate::read::read_named;
@@ -14,21 +14,17 @@ use pcvalue::Answer;
 use std::alloc::Global;
 
 /// `lookup TABLE PC`: function, file, line and stack depth at an address of a function table.
-pub fn lookup<F: Shelf>(alloc: Global, shelf: &mut F, table: &Bytes, pc: u64) -> Result<Bytes, Stop>
-    ensures text { IfOk result (λ text. ComesTo (F.holds shelf.old) (lookup_plan table.now pc) (Told text)) }
-    ensures stopped { IfErr result (Stopped (F.holds shelf.old) (F.faults shelf.old) (F.faults shelf.new) (lookup_plan table.now pc)) }
+pub fn lookup<F: Shelf>(alloc: Global, shelf: &mut F, table: &[u8], pc: u64) -> Result<Bytes, Stop>
+    ensures { Answers (shelf_change F.holds F.faults F.reads shelf.old shelf.new) (lookup_plan table.now pc) result }
 {
-    match read_named(alloc, shelf, table, limits::TABLE) {
-        Ok(bytes) => answer(alloc, table.as_slice(), pc, bytes.as_slice()),
-        Err(stop) => Err(stop),
-    }
+    let bytes = read_named(alloc, shelf, table, limits::TABLE)?;
+    answer(alloc, table, pc, bytes.as_slice())
 }
 
 // The text over the bytes that were read, or the first refusal.
 #[tactic(auto, unfolding(crate::specs::Lookup::lookup_answer))]
 fn answer(alloc: Global, name: &[u8], pc: u64, bytes: &[u8]) -> Result<Bytes, Stop>
-    ensures text { IfOk result (λ text. lookup_answer name.now pc bytes.now ≡ Tell text) }
-    ensures stopped { IfErr result (AnswerStopped (lookup_answer name.now pc bytes.now)) }
+    ensures { Gives (lookup_answer name.now pc bytes.now) result }
 {
     if bytes.len() > limits::TABLE {
         return Err(Stop::Refused(lines::too_long(alloc, name)?));
@@ -40,8 +36,7 @@ fn answer(alloc: Global, name: &[u8], pc: u64, bytes: &[u8]) -> Result<Bytes, St
 }
 
 fn in_table(alloc: Global, name: &[u8], pc: u64, table: &Table<'_>) -> Result<Bytes, Stop>
-    ensures text { IfOk result (λ text. lookup_in name.now pc table.now (func_at table.now pc) ≡ Tell text) }
-    ensures stopped { IfErr result (AnswerStopped (lookup_in name.now pc table.now (func_at table.now pc))) }
+    ensures { Gives (lookup_in name.now pc table.now (func_at table.now pc)) result }
 {
     match table.find(pc) {
         Some(func) => Ok(text(alloc, &func, pc)?),

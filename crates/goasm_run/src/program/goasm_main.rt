@@ -1,12 +1,13 @@
 ghost use Rattle.std.specs.Prelude.{◌≡◌, ◌≢◌, ◌⊎◌, ℕ, List, ◌≤◌, Some};
-ghost use Rattle.goasm_base.specs.Shelf.{Files, Rose};
-ghost use Rattle.goasm_base.specs.Sink.{with_more, TookPrefix};
-ghost use Rattle.goasm_run.specs.Plan.{Malformed, Text, Refusal, ComesTo, ending_of};
+ghost use Rattle.goasm_base.specs.Shelf.{Files};
+ghost use Rattle.goasm_base.specs.Sink.{with_more};
+ghost use Rattle.goasm_run.specs.Changes.{shelf_change, sink_change, FailsToTake};
+ghost use Rattle.goasm_run.specs.Plan.{Malformed, Text, Refusal, EndsIn, StopsAt, MakesReads, ending_of};
 ghost use Rattle.goasm_run.specs.Commands.{plan_of};
 ghost use Rattle.goasm_run.specs.Lines.{words_line, memory_line, unread_line};
-ghost use Rattle.goasm_run.specs.Statuses.{Unread, SaysWhy, Told};
+ghost use Rattle.goasm_run.specs.Statuses.{OutFailed, ErrFailed, KeptBack, Told, IsWritten};
 
-use crate::dispatch::answer;
+use crate::program::dispatch::answer;
 use crate::lines;
 use crate::stop::Stop;
 use crate::words::Words;
@@ -23,6 +24,7 @@ use std::alloc::Global;
 /// - 5: the standard output or the standard error failed
 ///
 /// A text is whole before the first byte of it is written.
+#[tactic(auto, using(crate::proofs::StatusLemmas::text_ends, crate::proofs::StatusLemmas::words_stopped))]
 pub fn goasm_main<F: Shelf, O: Sink, E: Sink>(
     alloc: Global,
     words: &Words,
@@ -33,42 +35,42 @@ pub fn goasm_main<F: Shelf, O: Sink, E: Sink>(
     ensures range { result ≤ 5 }
 
     // What each status says.
-    ensures text { result ≡ 0 → (text : List ℕ) × ComesTo (F.holds shelf.old) (plan_of words.now) (Text text)
+    ensures text { result ≡ 0 → (text : List ℕ)
+        × EndsIn (shelf_change F.holds F.faults F.reads shelf.old shelf.new) (plan_of words.now) (Text text)
         × (O.took out.new ≡ with_more (O.took out.old) text) }
-    ensures refused { result ≡ 1 → (line : List ℕ) × ComesTo (F.holds shelf.old) (plan_of words.now) (Refusal line)
+    ensures refused { result ≡ 1 → (line : List ℕ)
+        × EndsIn (shelf_change F.holds F.faults F.reads shelf.old shelf.new) (plan_of words.now) (Refusal line)
         × (E.took err.new ≡ with_more (E.took err.old) line) }
     ensures words { result ≡ 2 → (plan_of words.now ≡ Malformed)
         × (E.took err.new ≡ with_more (E.took err.old) words_line) }
     ensures memory { result ≡ 3 → E.took err.new ≡ with_more (E.took err.old) memory_line }
     ensures unread { result ≡ 4 → (name : List ℕ)
-        × Unread (F.holds shelf.old) (F.faults shelf.old) (F.faults shelf.new) (plan_of words.now) name
+        × StopsAt (shelf_change F.holds F.faults F.reads shelf.old shelf.new) (plan_of words.now) name
         × (E.took err.new ≡ with_more (E.took err.old) (unread_line name)) }
     ensures unwritten { result ≡ 5 →
-        (Rose (O.faults out.old) (O.faults out.new) × (E.took err.new ≡ E.took err.old)
-        × ((text : List ℕ) × ComesTo (F.holds shelf.old) (plan_of words.now) (Text text)
-        × TookPrefix (O.took out.old) (O.took out.new) text))
-        ⊎ (Rose (E.faults err.old) (E.faults err.new) × (O.took out.new ≡ O.took out.old)
-        × ((line : List ℕ)
-        × SaysWhy (F.holds shelf.old) (F.faults shelf.old) (F.faults shelf.new) (plan_of words.now) line
-        × TookPrefix (E.took err.old) (E.took err.new) line)) }
+        OutFailed (shelf_change F.holds F.faults F.reads shelf.old shelf.new) (plan_of words.now)
+        (sink_change O.took O.faults out.old out.new) (sink_change E.took E.faults err.old err.new)
+        ⊎ ErrFailed (shelf_change F.holds F.faults F.reads shelf.old shelf.new) (plan_of words.now)
+        (sink_change O.took O.faults out.old out.new) (sink_change E.took E.faults err.old err.new) }
     ensures out_kept { result ≢ 0 → result ≢ 5 → O.took out.new ≡ O.took out.old }
     ensures err_kept { result ≡ 0 → E.took err.new ≡ E.took err.old }
+
+    // With any status the reads that were made are the first ones that the words ask for, each made once.
+    ensures reads { MakesReads (shelf_change F.holds F.faults F.reads shelf.old shelf.new) (plan_of words.now) }
 
     // When a status comes, over a shelf that tells its files.
     ensures malformed { plan_of words.now ≡ Malformed → (result ≡ 2) ⊎ (result ≡ 5) }
     ensures succeeds { (files : Files) (text : List ℕ) → F.holds shelf.old ≡ Some files
         → ending_of files (plan_of words.now) ≡ Some (Text text)
         → ((result ≡ 0) × (O.took out.new ≡ with_more (O.took out.old) text))
-        ⊎ (result ≡ 3)
-        ⊎ ((name : List ℕ) × Unread (F.holds shelf.old) (F.faults shelf.old) (F.faults shelf.new) (plan_of words.now) name)
-        ⊎ Rose (O.faults out.old) (O.faults out.new)
-        ⊎ Rose (E.faults err.old) (E.faults err.new) }
+        ⊎ ((result ≡ 5) × FailsToTake (sink_change O.took O.faults out.old out.new) text)
+        ⊎ KeptBack result (shelf_change F.holds F.faults F.reads shelf.old shelf.new) (plan_of words.now)
+        (sink_change O.took O.faults out.old out.new) (sink_change E.took E.faults err.old err.new) }
     ensures refuses { (files : Files) (line : List ℕ) → F.holds shelf.old ≡ Some files
         → ending_of files (plan_of words.now) ≡ Some (Refusal line)
         → ((result ≡ 1) × (E.took err.new ≡ with_more (E.took err.old) line))
-        ⊎ (result ≡ 3)
-        ⊎ ((name : List ℕ) × Unread (F.holds shelf.old) (F.faults shelf.old) (F.faults shelf.new) (plan_of words.now) name)
-        ⊎ Rose (E.faults err.old) (E.faults err.new) }
+        ⊎ KeptBack result (shelf_change F.holds F.faults F.reads shelf.old shelf.new) (plan_of words.now)
+        (sink_change O.took O.faults out.old out.new) (sink_change E.took E.faults err.old err.new) }
 {
     match answer(alloc, words, shelf) {
         Ok(text) => match out.write(text.as_slice()) {
@@ -81,7 +83,7 @@ pub fn goasm_main<F: Shelf, O: Sink, E: Sink>(
 
 // Writes the line that says why there is no text, and answers the status.
 fn tell<E: Sink>(alloc: Global, err: &mut E, stop: Stop) -> u8
-    ensures { Told stop result (E.took err.old) (E.took err.new) (E.faults err.old) (E.faults err.new) }
+    ensures { Told (sink_change E.took E.faults err.old err.new) stop result }
 {
     match stop {
         Stop::Refused(line) => write_line(err, line.as_slice(), 1),
@@ -96,9 +98,7 @@ fn tell<E: Sink>(alloc: Global, err: &mut E, stop: Stop) -> u8
 
 // Writes a line, and answers its status, or 5 where the write failed.
 fn write_line<E: Sink>(err: &mut E, line: &[u8], status: u8) -> u8
-    ensures { ((result ≡ status) × (E.took err.new ≡ with_more (E.took err.old) line.now))
-        ⊎ ((result ≡ 5) × Rose (E.faults err.old) (E.faults err.new)
-        × TookPrefix (E.took err.old) (E.took err.new) line.now) }
+    ensures { IsWritten (sink_change E.took E.faults err.old err.new) result status line.now }
 {
     match err.write(line) {
         Ok(()) => status,

@@ -1,7 +1,6 @@
-ghost use Rattle.std.specs.Prelude.{◌≡◌, IfOk, IfErr};
-ghost use Rattle.goasm_run.specs.Plan.{Text as Told, ComesTo};
+ghost use Rattle.goasm_run.specs.Changes.{shelf_change};
 ghost use Rattle.goasm_run.specs.Commands.{plan_of, plan_of_one, plan_of_two};
-ghost use Rattle.goasm_run.specs.Stops.{WordsStopped};
+ghost use Rattle.goasm_run.specs.Stops.{AnswersWords};
 
 use crate::architecture::Architecture;
 use crate::command::Command;
@@ -15,8 +14,7 @@ use std::alloc::Global;
 
 /// The text that the words ask for, or why there is none. Nothing is written.
 pub fn answer<F: Shelf>(alloc: Global, words: &Words, shelf: &mut F) -> Result<Bytes, Stop>
-    ensures text { IfOk result (λ text. ComesTo (F.holds shelf.old) (plan_of words.now) (Told text)) }
-    ensures stopped { IfErr result (WordsStopped (F.holds shelf.old) (F.faults shelf.old) (F.faults shelf.new) (plan_of words.now)) }
+    ensures { AnswersWords (shelf_change F.holds F.faults F.reads shelf.old shelf.new) (plan_of words.now) result }
 {
     match words.as_slice() {
         [word, first] => one_word(alloc, shelf, Command::named(word.as_slice()), first),
@@ -37,11 +35,10 @@ fn one_word<F: Shelf>(
     command: Option<Command>,
     first: &Bytes,
 ) -> Result<Bytes, Stop>
-    ensures text { IfOk result (λ text. ComesTo (F.holds shelf.old) (plan_of_one command first.now) (Told text)) }
-    ensures stopped { IfErr result (WordsStopped (F.holds shelf.old) (F.faults shelf.old) (F.faults shelf.new) (plan_of_one command first.now)) }
+    ensures { AnswersWords (shelf_change F.holds F.faults F.reads shelf.old shelf.new) (plan_of_one command first.now) result }
 {
     match command {
-        Some(Command::Expand) => expand(alloc, shelf, first),
+        Some(Command::Expand) => expand(alloc, shelf, first.as_slice()),
         Some(Command::Lookup | Command::Bytes) | None => Err(Stop::Words),
     }
 }
@@ -53,16 +50,15 @@ fn two_words<F: Shelf>(
     first: &Bytes,
     second: &Bytes,
 ) -> Result<Bytes, Stop>
-    ensures text { IfOk result (λ text. ComesTo (F.holds shelf.old) (plan_of_two command first.now second.now) (Told text)) }
-    ensures stopped { IfErr result (WordsStopped (F.holds shelf.old) (F.faults shelf.old) (F.faults shelf.new) (plan_of_two command first.now second.now)) }
+    ensures { AnswersWords (shelf_change F.holds F.faults F.reads shelf.old shelf.new) (plan_of_two command first.now second.now) result }
 {
     match command {
         Some(Command::Lookup) => match read_number(second.as_slice()) {
-            Some(pc) => lookup(alloc, shelf, first, pc),
+            Some(pc) => lookup(alloc, shelf, first.as_slice(), pc),
             None => Err(Stop::Words),
         },
         Some(Command::Bytes) => match Architecture::named(first.as_slice()) {
-            Some(architecture) => bytes(alloc, shelf, architecture, second),
+            Some(architecture) => bytes(alloc, shelf, architecture, second.as_slice()),
             None => Err(Stop::Words),
         },
         Some(Command::Expand) | None => Err(Stop::Words),

@@ -1,0 +1,19 @@
+-- The longest files that are read, in bytes. A longer one is refused as too long.
+--
+--     a function table              256 MiB
+--     a file of raw code             16 MiB
+--     a source, an included file     16 MiB
+--     a build list                    1 MiB
+use Rattle.std.specs.Prelude.{ℕ}
+
+abbrev pub table_limit : ℕ
+table_limit = 268435456
+
+abbrev pub code_limit : ℕ
+code_limit = 16777216
+
+abbrev pub source_limit : ℕ
+source_limit = 16777216
+
+abbrev pub list_limit : ℕ
+list_limit = 1048576

@@ -1,0 +1,44 @@
+-- How reading the files of a list goes on, line by line.
+use Rattle.std.specs.Prelude.{◌≡◌, ◌⊎◌, ℕ, List, [], ◌∷◌, Option}
+use Rattle.goasm_base.specs.Shelf.{Files}
+use Rattle.goasm_list.specs.declared.line.ListLine.{ListLine}
+use Rattle.goasm_run.specs.declared.part.Part.{Part}
+use Rattle.goasm_run.specs.declared.stop.Stop.{Stop}
+use Rattle.goasm_run.specs.declared.stop.Stop.TheVariants as stops
+use Rattle.goasm_run.specs.Changes.{ShelfChange, FailsToRead}
+use Rattle.goasm_run.specs.Plan.{Plan, Ending, ComesTo, AsksFor, MakesSome, MakesReads}
+use Rattle.goasm_run.specs.Parts.{ask_parts}
+
+-- A plan leads to what is left of it, by reads that the shelf answered, which lead from one count to another. So what comes
+-- of the rest comes of the plan.
+pub record LeadsTo (told : Option Files) (plan : Plan) (before : ℕ) (rest : Plan) (between : ℕ) : Type 0 where
+  pub comes : (now : ℕ) (ending : Ending) → ComesTo told rest between now ending → ComesTo told plan before now ending
+  pub asks : (now : ℕ) (name : List ℕ) → AsksFor told rest between now name → AsksFor told plan before now name
+  pub makes : (now : ℕ) → MakesSome told rest between now → MakesSome told plan before now
+  pub made : (between ≡ before) ⊎ MakesSome told plan before between
+
+-- A line leads from parts that there are to others, with the number of the next file.
+abbrev pub LineLeads : Option Files → ListLine → ℕ → List Part → ℕ → ℕ → List Part → ℕ → Type 0
+LineLeads told line number parts before number_now parts_now between =
+    (lines : List ListLine) (next : List Part → Plan)
+    → LeadsTo told (ask_parts number (line ∷ lines) parts next) before (ask_parts number_now lines parts_now next) between
+
+-- reading the file of a line ended so
+abbrev pub LineStopped : ShelfChange → ListLine → ℕ → List Part → Stop → Type 0
+LineStopped shelf line number parts (stops.Refused said) = ⊥
+LineStopped shelf line number parts stops.Words = ⊥
+LineStopped shelf line number parts stops.Memory =
+    (lines : List ListLine) (next : List Part → Plan) → MakesReads shelf (ask_parts number (line ∷ lines) parts next)
+LineStopped shelf line number parts (stops.Unread name) =
+    ((lines : List ListLine) (next : List Part → Plan)
+    → AsksFor shelf.holds (ask_parts number (line ∷ lines) parts next) shelf.reads_before shelf.reads_now name)
+    × FailsToRead shelf name
+
+-- reading the files of all lines ended so
+abbrev pub PartsStopped : ShelfChange → List ListLine → Stop → Type 0
+PartsStopped shelf lines (stops.Refused said) = ⊥
+PartsStopped shelf lines stops.Words = ⊥
+PartsStopped shelf lines stops.Memory = (next : List Part → Plan) → MakesReads shelf (ask_parts 1 lines [] next)
+PartsStopped shelf lines (stops.Unread name) =
+    ((next : List Part → Plan) → AsksFor shelf.holds (ask_parts 1 lines [] next) shelf.reads_before shelf.reads_now name)
+    × FailsToRead shelf name
