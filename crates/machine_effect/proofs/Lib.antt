@@ -1,3 +1,4 @@
 pub mod MemoryLemmas
+pub mod PageLemmas
 pub mod FlowLemmas
 pub mod StateLemmas

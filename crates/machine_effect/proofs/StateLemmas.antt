@@ -11,7 +11,7 @@ use Rattle.machine_effect.specs.declared.effect.Access.{Access}
 use Rattle.machine_effect.specs.declared.effect.Value.{Value}
 use Rattle.machine_effect.specs.declared.effect.WideValue.{WideValue}
 use Rattle.machine_effect.specs.declared.effect.WideValue.TheVariants.{Loaded, Xor}
-use Rattle.machine_effect.specs.Memory.{Memory, byte_at, bytes_at, word_at, number_of, bytes_of, IsMapped, put}
+use Rattle.machine_effect.specs.Memory.{Memory, byte_at, bytes_at, word_at, number_of, bytes_of, IsMapped, put, is_within}
 use Rattle.machine_effect.specs.declared.effect.Atom.TheVariants.{Reg}
 use Rattle.machine_effect.specs.declared.op.Op.TheVariants.{Copy}
 use Rattle.machine_effect.specs.Operations.{operate}
@@ -20,7 +20,6 @@ use Rattle.machine_effect.specs.declared.flow.Shape.{Shape}
 use Rattle.machine_effect.specs.declared.flow.Flow.{Flow}
 use Rattle.machine_effect.specs.Flow.{flow_of}
 use Rattle.machine_effect.specs.Steps.{StoresCopy, SavesRegister}
-use Rattle.machine_effect.specs.Bytes.{is_within}
 use Rattle.machine_effect.specs.Applies.{IsState, Applies, Writes, with_link, link_of, with_wide, wide_of, Stores, address_of}
 use Rattle.machine_effect.proofs.FlowLemmas.{set_here, flow_stored}
 use Rattle.machine_effect.proofs.MemoryLemmas.{byte_at-put, inside}

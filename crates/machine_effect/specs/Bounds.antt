@@ -1,6 +1,6 @@
 -- What bounds an effect: which registers it may name, how wide its operands may be, and what it leaves alone where the machine
 -- doesn't go on behind the instruction.
-use Rattle.std.specs.Prelude.{◌≡◌, ℕ, [], ◌<◌, ◌≤◌, ◌^◌, ◌⊎◌, All, Option, None, IfSome, is_some}
+use Rattle.std.specs.Prelude.{◌≡◌, ℕ, [], ◌<◌, ◌≤◌, ◌^◌, ◌⊎◌, All, None, IfSome, is_some}
 use Rattle.machine_effect.specs.declared.effect.Atom.{Atom}
 use Rattle.machine_effect.specs.declared.effect.Atom.TheVariants.{Reg, Const, Loaded, Wide}
 use Rattle.machine_effect.specs.declared.effect.Value.{Value}
@@ -56,10 +56,10 @@ pub record IsBoundedAccess (access : Access) : Type 0 where
   pub scale : IsScale access.scale
 
 -- two atoms that are compared or combined at a width
-pub record IsBoundedPair (a b : Atom) (width : ℕ) : Type 0 where
+pub record IsBoundedPair (a b : Atom) (bits : ℕ) : Type 0 where
   pub first : IsBoundedAtom a
   pub second : IsBoundedAtom b
-  pub width : IsWidth width
+  pub width : IsWidth bits
 
 abbrev pub IsBoundedCond : Cond → Type 0
 IsBoundedCond (cond.Equal a b width) = IsBoundedPair a b width

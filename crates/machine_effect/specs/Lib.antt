@@ -1,6 +1,7 @@
 pub mod Numbers
 pub mod Memory
-pub mod Bytes
+pub mod Page
+pub mod Pages
 pub mod Operations
 pub mod Values
 pub mod FlagsAfter

@@ -4,7 +4,6 @@
 //! of `specs/Applies.antt`.
 #![tactic(auto)]
 
-mod bytes;
 mod cond;
 mod effect;
 mod flag_rule;
@@ -14,6 +13,8 @@ mod laws;
 mod mem;
 mod next;
 mod op;
+mod page;
+mod pages;
 mod state;
 
 pub use cond::Cond;
