@@ -2,3 +2,4 @@ pub mod MemoryLemmas
 pub mod PageLemmas
 pub mod FlowLemmas
 pub mod StateLemmas
+pub mod StepLemmas

@@ -10,5 +10,6 @@ pub mod Flow
 pub mod Shapes
 pub mod Bounds
 pub mod Steps
+pub mod Stores
 pub mod OperationCases
 pub mod FlagCases
