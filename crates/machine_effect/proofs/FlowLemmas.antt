@@ -2,7 +2,7 @@ use Rattle.std.proofs.Common.{◌≡◌, ◌≢◌, ℕ, ℤ, pos, negsuc, ◌+�
 use Rattle.std.proofs.lemmas.Bool.{eqb-true, eqb-false, eq-eqb, or_parts, and_parts, false≢true, leb-true, le-leb}
 use Rattle.std.proofs.lemmas.List.{take_rest}
 use Rattle.std.specs.List.{list_any}
-use Rattle.std.specs.Option.{option_map, option_and_then}
+use Rattle.std.specs.Option.{option_map, option_and_then, option_or}
 use Rattle.machine_effect.specs.declared.state.State.{State}
 use Rattle.machine_effect.specs.declared.effect.Effect.{Effect}
 use Rattle.machine_effect.specs.declared.effect.Value.{Value}
@@ -11,13 +11,12 @@ use Rattle.machine_effect.specs.declared.effect.Atom.TheVariants.{Reg, Const, Lo
 use Rattle.machine_effect.specs.declared.op.Op.{Op}
 use Rattle.machine_effect.specs.declared.op.Op.TheVariants as op
 use Rattle.machine_effect.specs.declared.flow.Shape.{Shape}
-use Rattle.machine_effect.specs.declared.flow.Flow.{Flow}
 use Rattle.machine_effect.specs.declared.flow.SpMove.TheVariants.{Keep, By, Other}
 use Rattle.machine_effect.specs.Numbers.{signed, unsigned}
 use Rattle.machine_effect.specs.Operations.{IsOutcome, operate, difference}
 use Rattle.machine_effect.specs.Values.{reg_of, atom_of, holds, Gives}
 use Rattle.machine_effect.specs.Applies.{Writes, with_link, link_of}
-use Rattle.machine_effect.specs.Flow.{written_to, is_named, writes_register, constant_after, or_else, added_by, added_to, is_stack_move, move_by, sole, sp_move_of, is_register, is_copy, is_copy_of, stores_register, of_link, flow_of}
+use Rattle.machine_effect.specs.Flow.{written_to, is_named, writes_register, constant_after, added_by, added_to, is_stack_move, move_by, sole, sp_move_of, is_register, is_copy, is_copy_of, stores_register, of_link, flow_of}
 use Rattle.machine_effect.specs.Steps.{KeepsRegister, MovesRegister, StoresCopy}
 
 -- a register that isn't among the writes has no value in them
@@ -60,7 +59,7 @@ sole_once r [] d some here none = absurd (omega arith)
 sole_once r (w ∷ ws) d some here none = rw (eq-eqb w.0 r here, unwritten r ws (rw take_rest at none)) refl
 
 -- writes leave a register that isn't among them
-untouched : (before : State) (loaded r : ℕ) (ws : List (ℕ × Value)) (regs after : List ℕ)
+pub untouched : (before : State) (loaded r : ℕ) (ws : List (ℕ × Value)) (regs after : List ℕ)
     → Writes before loaded ws regs after → list_any (λ w. w.0 == r) ws ≡ false → get_or after r 0 ≡ get_or regs r 0
 untouched before loaded r [] regs after writes none = ap (λ xs. get_or xs r 0) writes
 untouched before loaded r (w ∷ ws) regs after writes none =
@@ -69,7 +68,7 @@ untouched before loaded r (w ∷ ws) regs after writes none =
     untouched before loaded r ws (set regs w.0 (writes.0 % 2 ^ 64)) after writes.2 parts.1
     ∙ get_or-set_other regs w.0 r (writes.0 % 2 ^ 64) 0 apart
 
-unlinked : (r past : ℕ) (link : Option ℕ) (regs : List ℕ) → is_named r link ≡ false
+pub unlinked : (r past : ℕ) (link : Option ℕ) (regs : List ℕ) → is_named r link ≡ false
     → get_or (with_link link past regs) r 0 ≡ get_or regs r 0
 unlinked r past None regs none = refl
 unlinked r past (Some l) regs none =
@@ -130,11 +129,9 @@ sp_unwritten effect sp is =
       | false ↦ λ _. refl
     ] is
 
-pub flow_keeps : (effect : Effect) (shape : Shape) (f : Flow) → f ≡ flow_of effect shape → f.sp ≡ Keep
-    → KeepsRegister effect shape.sp
+pub flow_keeps : (effect : Effect) (shape : Shape) → (flow_of effect shape).sp ≡ Keep → KeepsRegister effect shape.sp
 unfolding flow_of
-flow_keeps effect shape f is keep =
-    keeps effect shape.sp (sp_unwritten effect shape.sp (sym (ap (λ g. g.sp) is) ∙ keep))
+flow_keeps effect shape keep = keeps effect shape.sp (sp_unwritten effect shape.sp keep)
 
 -- the move by a constant
 Moved : Effect → ℕ → ℤ → Option ℕ → Type 0
@@ -215,7 +212,7 @@ module _ (before : State) (loaded r d x : ℕ) (a b c : Atom) where
   adds_by : (o : Op) → AddsBy o
   unfolding AddsBy Adds operate
   adds_by op.Add is gives =
-      elim (constant_after r a b) as (λ first. constant_after r a b ≡ first → or_else first (constant_after r b a) ≡ Some d
+      elim (constant_after r a b) as (λ first. constant_after r a b ≡ first → option_or first (constant_after r b a) ≡ Some d
       → x % 2 ^ 64 ≡ (reg_of before r + d) % 2 ^ 64) [
         | Some e ↦ λ first is.
             let at = after_constant before loaded r e a b first in
@@ -265,11 +262,10 @@ final_move : (reg d x u final : ℕ) → x % 2 ^ 64 ≡ (reg + d) % 2 ^ 64 → u
     → final ≡ (reg + u) % 2 ^ 64
 final_move reg d x u final adds same is = omega arith
 
-pub flow_moves : (effect : Effect) (shape : Shape) (f : Flow) → f ≡ flow_of effect shape → (k : ℤ) → f.sp ≡ By k
-    → MovesRegister effect shape.sp k
+pub flow_moves : (effect : Effect) (shape : Shape) (k : ℤ) → (flow_of effect shape).sp ≡ By k → MovesRegister effect shape.sp k
 unfolding flow_of SpMoved Moved Wrote Adds
-flow_moves effect shape f is k by past before after state inside applies =
-    let how = sp_moved effect shape.sp k (sym (ap (λ g. g.sp) is) ∙ by) in
+flow_moves effect shape k by past before after state inside applies =
+    let how = sp_moved effect shape.sp k by in
     let d : ℕ = how.1.0 in
     let value = found_value shape.sp d (sole (written_to shape.sp effect.writes.items)) how.1.1 in
     let within : shape.sp < length before.regs = rw state.regs_len inside in
@@ -280,20 +276,14 @@ flow_moves effect shape f is k by past before after state inside applies =
     let same : unsigned 64 k ≡ d % 2 ^ 64 = rw how.1.2 at (unsigned-signed d) in
     linked ∙ final_move (get_or before.regs shape.sp 0) d wrote_it.0 (unsigned 64 k) (get_or applies.written shape.sp 0) adds same wrote_it.2
 
-pub flow_next : (effect : Effect) (shape : Shape) (f : Flow) → f ≡ flow_of effect shape → f.next ≡ effect.next
+pub flow_keeps_link : (effect : Effect) (shape : Shape)
+    → IfSome shape.link (λ link. (flow_of effect shape).writes_link ≡ false → KeepsRegister effect link)
 unfolding flow_of
-flow_next effect shape f is = ap (λ g. g.next) is
-
-pub flow_keeps_link : (effect : Effect) (shape : Shape) (f : Flow) → f ≡ flow_of effect shape
-    → IfSome shape.link (λ link. f.writes_link ≡ false → KeepsRegister effect link)
-unfolding flow_of
-flow_keeps_link effect shape f is =
-    let told : f.writes_link ≡ of_link shape.link (writes_register effect) = ap (λ g. g.writes_link) is in
-    elim shape.link as (λ some. f.writes_link ≡ of_link some (writes_register effect)
-    → IfSome some (λ link. f.writes_link ≡ false → KeepsRegister effect link)) [
-      | Some link ↦ λ told none. keeps effect link (sym told ∙ none)
-      | None ↦ λ _. tt
-    ] told
+flow_keeps_link effect shape =
+    elim shape.link as (λ some. IfSome some (λ link. of_link some (writes_register effect) ≡ false → KeepsRegister effect link)) [
+      | Some link ↦ λ none. keeps effect link none
+      | None ↦ tt
+    ]
 
 copy_op : (o : Op) → is_copy o ≡ true → o ≡ op.Copy
 copy_op op.Copy is = refl
@@ -328,24 +318,20 @@ copy_stored effect r is =
       | None ↦ λ _ bad. absurd (false≢true bad)
     ] refl is
 
-pub flow_unstored : (effect : Effect) (shape : Shape) (f : Flow) → f ≡ flow_of effect shape
-    → IfSome shape.link (λ link. f.stores_link ≡ false → ¬ StoresCopy effect link)
+pub flow_unstored : (effect : Effect) (shape : Shape)
+    → IfSome shape.link (λ link. (flow_of effect shape).stores_link ≡ false → ¬ StoresCopy effect link)
 unfolding flow_of
-flow_unstored effect shape f is =
-    let told : f.stores_link ≡ of_link shape.link (λ link. stores_register link effect.store) = ap (λ g. g.stores_link) is in
-    elim shape.link as (λ some. f.stores_link ≡ of_link some (λ link. stores_register link effect.store)
-    → IfSome some (λ link. f.stores_link ≡ false → ¬ StoresCopy effect link)) [
-      | Some link ↦ λ told none copy. false≢true (sym none ∙ told ∙ stores_copy effect link copy)
-      | None ↦ λ _. tt
-    ] told
+flow_unstored effect shape =
+    elim shape.link as (λ some. IfSome some (λ link. of_link some (λ r. stores_register r effect.store) ≡ false → ¬ StoresCopy effect link)) [
+      | Some link ↦ λ none copy. false≢true (sym none ∙ stores_copy effect link copy)
+      | None ↦ tt
+    ]
 
-pub flow_stored : (effect : Effect) (shape : Shape) (f : Flow) → f ≡ flow_of effect shape
-    → IfSome shape.link (λ link. f.stores_link ≡ true → StoresCopy effect link)
+pub flow_stored : (effect : Effect) (shape : Shape)
+    → IfSome shape.link (λ link. (flow_of effect shape).stores_link ≡ true → StoresCopy effect link)
 unfolding flow_of
-flow_stored effect shape f is =
-    let told : f.stores_link ≡ of_link shape.link (λ link. stores_register link effect.store) = ap (λ g. g.stores_link) is in
-    elim shape.link as (λ some. f.stores_link ≡ of_link some (λ link. stores_register link effect.store)
-    → IfSome some (λ link. f.stores_link ≡ true → StoresCopy effect link)) [
-      | Some link ↦ λ told some. copy_stored effect link (sym told ∙ some)
-      | None ↦ λ _. tt
-    ] told
+flow_stored effect shape =
+    elim shape.link as (λ some. IfSome some (λ link. of_link some (λ r. stores_register r effect.store) ≡ true → StoresCopy effect link)) [
+      | Some link ↦ λ some. copy_stored effect link some
+      | None ↦ tt
+    ]

@@ -1,3 +1,5 @@
 pub mod MemoryLemmas
+pub mod PageLemmas
 pub mod FlowLemmas
 pub mod StateLemmas
+pub mod StepLemmas

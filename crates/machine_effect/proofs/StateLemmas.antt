@@ -1,4 +1,4 @@
-use Rattle.std.proofs.Common.{◌≡◌, ℕ, zero, suc, ◌+◌, ◌-◌, ◌*◌, ◌/◌, ◌%◌, ◌^◌, ◌<◌, ◌≤◌, true, false, List, [], ◌∷◌, length, get_or, set, slice_get, Option, Some, None, IsSome, IfSome, refl, sym, ap, ◌∙◌, arith, add-zero, if◌then◌else◌, ⊎_elim, length-set, get_or-set_other}
+use Rattle.std.proofs.Common.{◌≡◌, ℕ, zero, suc, ◌+◌, ◌-◌, ◌*◌, ◌/◌, ◌%◌, ◌^◌, ◌<◌, ◌≤◌, true, false, List, [], ◌∷◌, length, get_or, set, slice_get, Option, Some, None, IsSome, refl, sym, ap, ◌∙◌, arith, add-zero, if◌then◌else◌, ⊎_elim, length-set, get_or-set_other}
 use Rattle.std.proofs.lemmas.Bool.{cases_eq, cases_lt, and_parts, leb-true, false≢true}
 use Rattle.std.proofs.lemmas.List.{set_past}
 use Rattle.std.proofs.lemmas.Option.{slice_get_within, some_pair_parts, IfSome_then}
@@ -11,18 +11,16 @@ use Rattle.machine_effect.specs.declared.effect.Access.{Access}
 use Rattle.machine_effect.specs.declared.effect.Value.{Value}
 use Rattle.machine_effect.specs.declared.effect.WideValue.{WideValue}
 use Rattle.machine_effect.specs.declared.effect.WideValue.TheVariants.{Loaded, Xor}
-use Rattle.machine_effect.specs.Memory.{Memory, byte_at, bytes_at, word_at, number_of, bytes_of, IsMapped, put}
+use Rattle.machine_effect.specs.Memory.{Memory, byte_at, bytes_at, number_at, number_of, bytes_of, IsMapped, put, is_within}
 use Rattle.machine_effect.specs.declared.effect.Atom.TheVariants.{Reg}
 use Rattle.machine_effect.specs.declared.op.Op.TheVariants.{Copy}
 use Rattle.machine_effect.specs.Operations.{operate}
 use Rattle.machine_effect.specs.Values.{reg_of, Gives}
 use Rattle.machine_effect.specs.declared.flow.Shape.{Shape}
-use Rattle.machine_effect.specs.declared.flow.Flow.{Flow}
 use Rattle.machine_effect.specs.Flow.{flow_of}
-use Rattle.machine_effect.specs.Steps.{StoresCopy, SavesRegister}
-use Rattle.machine_effect.specs.Bytes.{is_within}
+use Rattle.machine_effect.specs.Steps.{StoresCopy, SavesRegister, FlowTells}
 use Rattle.machine_effect.specs.Applies.{IsState, Applies, Writes, with_link, link_of, with_wide, wide_of, Stores, address_of}
-use Rattle.machine_effect.proofs.FlowLemmas.{set_here, flow_stored}
+use Rattle.machine_effect.proofs.FlowLemmas.{set_here, flow_keeps, flow_moves, flow_keeps_link, flow_unstored, flow_stored}
 use Rattle.machine_effect.proofs.MemoryLemmas.{byte_at-put, inside}
 
 -- a register written below a bound leaves all of them below it
@@ -38,14 +36,13 @@ set_below regs i x bound small low r =
     (cases_lt r (length regs))
 
 -- a list of this many registers of w bits
-IsFile : ℕ → ℕ → List ℕ → Type 0
+abbrev pub IsFile : ℕ → ℕ → List ℕ → Type 0
 IsFile count w regs = (length regs ≡ count) × ((r : ℕ) → get_or regs r 0 < 2 ^ w)
 
 set_file : (count w : ℕ) (regs : List ℕ) (i x : ℕ) → IsFile count w regs → x < 2 ^ w → IsFile count w (set regs i x)
-unfolding IsFile
 set_file count w regs i x file low = (length-set regs i x ∙ file.0, set_below regs i x (2 ^ w) file.1 low)
 
-writes_file : (before : State) (loaded : ℕ) (ws : List (ℕ × Value)) (regs after : List ℕ)
+pub writes_file : (before : State) (loaded : ℕ) (ws : List (ℕ × Value)) (regs after : List ℕ)
     → Writes before loaded ws regs after → IsFile 33 64 regs → IsFile 33 64 after
 writes_file before loaded [] regs after writes file = rw writes file
 writes_file before loaded (w ∷ ws) regs after writes file =
@@ -64,12 +61,11 @@ wide_below state loaded (Xor a b) small = xor_lt 128 (get_or state.wide a 0) (ge
 
 wide_file : (state : State) (loaded : ℕ) (write : Option (ℕ × WideValue)) → IsFile 16 128 state.wide
     → IsFile 16 128 (with_wide state loaded write)
-unfolding IsFile
 wide_file state loaded None file = file
 wide_file state loaded (Some write) file =
     set_file 16 128 state.wide write.0 (wide_of state loaded write.1) file (wide_below state loaded write.1 file.1)
 
-length-bytes_of : (n x : ℕ) → length (bytes_of n x) ≡ n
+pub length-bytes_of : (n x : ℕ) → length (bytes_of n x) ≡ n
 unfolding bytes_of
 length-bytes_of zero x = refl
 length-bytes_of (suc n) x = ap suc (length-bytes_of n (x / 256))
@@ -82,15 +78,11 @@ bytes_of_below (suc n) x zero byte is =
 bytes_of_below (suc n) x (suc k) byte is = bytes_of_below n (x / 256) k byte is
 
 -- the bytes of a memory are bytes, and their addresses have 64 bits
-IsFineMemory : Memory → Type 0
+abbrev pub IsFineMemory : Memory → Type 0
 IsFineMemory m = (at byte : ℕ) → byte_at m at ≡ Some byte → (at < 2 ^ 64) × (byte < 2 ^ 8)
-
-Fine : ℕ → Option ℕ → Type 0
-Fine at some = (byte : ℕ) → some ≡ Some byte → (at < 2 ^ 64) × (byte < 2 ^ 8)
 
 -- an address that has a byte
 mapped_address : (m : Memory) (q : ℕ) → IsFineMemory m → IsSome (byte_at m q) → q < 2 ^ 64
-unfolding IsFineMemory
 mapped_address m q fine =
     elim (byte_at m q) as (λ some. byte_at m q ≡ some → IsSome some → q < 2 ^ 64) [
       | Some byte ↦ λ is _. (fine q byte is).0
@@ -98,7 +90,6 @@ mapped_address m q fine =
     ] refl
 
 put_fine : (m : Memory) (at n x : ℕ) → IsFineMemory m → IsMapped m at n → IsFineMemory (put m at (bytes_of n x))
-unfolding IsFineMemory Fine
 put_fine m at n x fine mapped q byte is =
     let told : (if is_within at (length (bytes_of n x)) q then slice_get (bytes_of n x) (q - at) else byte_at m q) ≡ Some byte
     = sym (byte_at-put (bytes_of n x) m at q) ∙ is in
@@ -123,7 +114,6 @@ stores_fine before loaded (Some store) after stores fine =
 
 pub state_stays : (effect : Effect) (past : ℕ) (before after : State)
     → IsState before → past < 2 ^ 64 → after.pc < 2 ^ 64 → Applies effect past before after → IsState after
-unfolding IsFile IsFineMemory
 state_stays effect past before after state low pc applies =
     let written : IsFile 33 64 applies.written
     = writes_file before applies.loaded effect.writes.items before.regs applies.written applies.writes (state.regs_len, state.regs) in
@@ -174,11 +164,11 @@ bytes_at-put bytes m at =
     byte_at-put bytes m at (at + k)
     ∙ rw (inside at (length bytes) (at + k) from short, place) refl)
 
-pub word_at-put : (m : Memory) (at x : ℕ) → word_at (put m at (bytes_of 8 x)) at ≡ Some (x % 2 ^ 64)
-word_at-put m at x =
-    let found : bytes_at (put m at (bytes_of 8 x)) at 8 ≡ Some (bytes_of 8 x)
-    = rw (length-bytes_of 8 x) at (bytes_at-put (bytes_of 8 x) m at) in
-    rw found (ap Some (number_of-bytes_of 8 x))
+pub number_at-put : (m : Memory) (at n x : ℕ) → number_at (put m at (bytes_of n x)) at n ≡ Some (x % 2 ^ (8 * n))
+number_at-put m at n x =
+    let found : bytes_at (put m at (bytes_of n x)) at n ≡ Some (bytes_of n x)
+    = rw (length-bytes_of n x) at (bytes_at-put (bytes_of n x) m at) in
+    rw found (ap Some (number_of-bytes_of n x))
 
 -- what a copy of a register stores
 copied : (before : State) (loaded r x : ℕ) (value : Value) → value.op ≡ Copy → value.a ≡ Reg r → 64 ≤ value.width
@@ -198,9 +188,14 @@ copy_saved effect r copy past before after access value state store applies =
     = copied before applies.loaded r stores.1.0 value (ap (λ v. v.op) (sym parts.1) ∙ copy.copy)
     (ap (λ v. v.a) (sym parts.1) ∙ copy.from) (rw parts.1 at copy.whole) (state.regs r) stores.1.1 in
     let low : stores.1.0 % 2 ^ 64 ≡ reg_of before r = rw is (mod-eq_of_lt (state.regs r)) in
-    rw (stores.1.2, eight) (word_at-put before.mem (address_of before applies.loaded access) stores.1.0 ∙ ap Some low)
+    rw (stores.1.2, eight) (number_at-put before.mem (address_of before applies.loaded access) 8 stores.1.0 ∙ ap Some low)
 
-pub flow_saves : (effect : Effect) (shape : Shape) (f : Flow) → f ≡ flow_of effect shape
-    → IfSome shape.link (λ link. f.stores_link ≡ true → SavesRegister effect link)
-flow_saves effect shape f is =
-    IfSome_then shape.link (flow_stored effect shape f is) (λ link copy stores. copy_saved effect link (copy stores))
+pub flow_tells : (effect : Effect) (shape : Shape) → FlowTells effect shape (flow_of effect shape)
+flow_tells effect shape = record {
+  keep = flow_keeps effect shape;
+  by = flow_moves effect shape;
+  link_kept = flow_keeps_link effect shape;
+  link_unstored = flow_unstored effect shape;
+  link_stored = flow_stored effect shape;
+  link_saved = IfSome_then shape.link (flow_stored effect shape) (λ link copy stores. copy_saved effect link (copy stores));
+}

@@ -1,6 +1,6 @@
 -- What an effect does to the stack pointer and the link register, read off its form.
 use Rattle.std.specs.Prelude.{ℕ, Bool, true, false, List, [], ◌∷◌, ◌+◌, ◌-◌, ◌*◌, ◌%◌, ◌^◌, ◌==◌, ◌&&◌, ◌||◌, nat_le, not, Option, Some, None, if◌then◌else◌}
-use Rattle.std.specs.Option.{option_map, option_and_then}
+use Rattle.std.specs.Option.{option_map, option_and_then, option_or}
 use Rattle.std.specs.List.{list_any}
 use Rattle.machine_effect.specs.declared.effect.Effect.{Effect}
 use Rattle.machine_effect.specs.declared.effect.Access.{Access}
@@ -37,13 +37,9 @@ abbrev pub constant_after : ℕ → Atom → Atom → Option ℕ
 constant_after register (Reg first) (Const second) = if first == register then Some second else None
 constant_after register _ _ = None
 
-abbrev pub or_else : Option ℕ → Option ℕ → Option ℕ
-or_else (Some first) second = Some first
-or_else None second = second
-
 -- what an operation adds to a register, modulo 2 ^ 64, where it's a sum or a difference of that register and a constant
 abbrev pub added_by : ℕ → Op → Atom → Atom → Option ℕ
-added_by register Add a b = or_else (constant_after register a b) (constant_after register b a)
+added_by register Add a b = option_or (constant_after register a b) (constant_after register b a)
 added_by register Subtract a b = option_map (λ c. (2 ^ 64 - c % 2 ^ 64) % 2 ^ 64) (constant_after register a b)
 added_by register _ a b = None
 

@@ -1,6 +1,7 @@
 pub mod Numbers
 pub mod Memory
-pub mod Bytes
+pub mod Page
+pub mod Pages
 pub mod Operations
 pub mod Values
 pub mod FlagsAfter
@@ -9,6 +10,7 @@ pub mod Flow
 pub mod Shapes
 pub mod Bounds
 pub mod Steps
+pub mod Stores
 pub mod OperationCases
 pub mod FlagCases
 pub mod Witness

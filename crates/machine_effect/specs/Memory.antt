@@ -1,5 +1,5 @@
 -- Memory: a finite map from addresses to bytes. Numbers stand in it with the lowest byte first.
-use Rattle.std.specs.Prelude.{◌≡◌, ℕ, zero, suc, List, [], ◌∷◌, ◌+◌, ◌*◌, ◌/◌, ◌%◌, ◌<◌, ◌≤◌, Option, Some, None, IsSome}
+use Rattle.std.specs.Prelude.{◌≡◌, ℕ, zero, suc, Bool, List, [], ◌∷◌, ◌+◌, ◌*◌, ◌/◌, ◌%◌, ◌<◌, ◌≤◌, ◌&&◌, nat_le, nat_lt, Option, Some, None, IsSome}
 use Rattle.std.specs.Option.{option_map, option_and_then}
 use Rattle.std.specs.Ordering.{nat_cmp}
 use Rattle.std.specs.FinMap as map
@@ -7,6 +7,10 @@ use Rattle.std.specs.FinMap.{FinMap}
 
 abbrev pub Memory : Type 0
 Memory = FinMap nat_cmp ℕ
+
+-- q is one of this many addresses
+abbrev pub is_within : ℕ → ℕ → ℕ → Bool
+is_within at count q = nat_le at q && nat_lt q (at + count)
 
 -- the byte at an address, where there is one
 abbrev pub byte_at : Memory → ℕ → Option ℕ

@@ -4,7 +4,6 @@
 //! of `specs/Applies.antt`.
 #![tactic(auto)]
 
-mod bytes;
 mod cond;
 mod effect;
 mod flag_rule;
@@ -14,6 +13,8 @@ mod laws;
 mod mem;
 mod next;
 mod op;
+mod page;
+mod pages;
 mod state;
 
 pub use cond::Cond;
@@ -21,6 +22,9 @@ pub use effect::{Access, Atom, Effect, Value, WideValue};
 pub use flag_rule::FlagRule;
 pub use flow::{Flow, Shape, SpMove, effect_flow};
 pub use frame::{Calls, Frame};
+pub use laws::{
+    call_links, flow_tells, keeps_widths, loads_numbers, one_write, stores_numbers, word_values,
+};
 pub use mem::Mem;
 pub use next::Next;
 pub use op::{Division, Logic, Op, Shift, Signs, Word};

@@ -3,17 +3,18 @@ ghost use Rattle.std.specs.FinMap as map;
 ghost use Rattle.machine_effect.specs.Memory as memory;
 ghost use Rattle.machine_effect.specs.Memory.{IsFirstFrom, NoneFrom};
 
-use crate::bytes::{bytes_before, restore, write};
+use crate::page::PAGE;
+use crate::pages::{self, Pages};
 use goasm_base::Memory;
 use std::alloc::Global;
 use std::collections::BTreeMap;
 use std::marker::Model;
 
 /// The memory of a machine: a finite map from addresses to bytes. A byte that isn't in the map can't be
-/// accessed.
+/// accessed. It's kept in pages of 4,096 bytes, so that a word stored where its page stands takes no memory.
 #[derive(Drop)]
 pub struct Mem {
-    bytes: BTreeMap<u64, u8>,
+    pages: Pages,
     alloc: Global,
 }
 
@@ -22,12 +23,15 @@ impl Model for Mem {
     ghost use Rattle.std.specs.Ordering.{nat_cmp};
     ghost use Rattle.std.specs.FinMap as map;
     ghost use Rattle.std.specs.Coded.{coded_ℕ};
+    ghost use Rattle.machine_effect.specs.Pages.{memory_of, HasLowPages};
 
     ghost Value = { map.FinMap nat_cmp ℕ };
 
     ghost coded = { map.code coded_ℕ coded_ℕ };
 
-    ghost view = { λ m. map.from_entries m.bytes.entries };
+    ghost view = { λ m. memory_of m.pages.entries };
+
+    ghost invariant = { λ m. HasLowPages m.pages };
 }
 
 impl Mem {
@@ -36,7 +40,7 @@ impl Mem {
         ensures { result ≡ map.empty }
     {
         Mem {
-            bytes: BTreeMap::new(alloc),
+            pages: BTreeMap::new(alloc),
             alloc,
         }
     }
@@ -48,12 +52,17 @@ impl Mem {
         ensures ok { OnOk result (self.new ≡ memory.put self.old at bytes.now) }
         ensures err { OnErr result (self.new ≡ self.old) }
     {
-        let before = bytes_before(self.alloc, &self.bytes, at, bytes.len())?;
-        let count = write(&mut self.bytes, at, bytes);
-        if count < bytes.len() {
-            restore(&mut self.bytes, at, &before[..count]);
-            return Err(Memory);
-        }
+        let Some(more) = bytes.len().checked_sub(1) else {
+            return Ok(());
+        };
+        // Only the pages take memory, and a page with no byte isn't seen.
+        pages::make(
+            self.alloc,
+            &mut self.pages,
+            at / PAGE,
+            (at + more as u64) / PAGE,
+        )?;
+        pages::write(&mut self.pages, at, bytes);
         Ok(())
     }
 
@@ -61,7 +70,7 @@ impl Mem {
     pub fn byte(&self, at: u64) -> Option<u8>
         ensures { result ≡ memory.byte_at self.now at }
     {
-        self.bytes.get(&at).copied()
+        pages::byte(&self.pages, at)
     }
 
     /// The first of the map's addresses, in rising order, that is at least `from`; `None` where there is none.
@@ -69,9 +78,6 @@ impl Mem {
         ensures some { IfSome result (λ at. IsFirstFrom self.now from at) }
         ensures none { result ≡ None → NoneFrom self.now from }
     {
-        match self.bytes.range(from..).next() {
-            Some((at, _)) => Some(*at),
-            None => None,
-        }
+        pages::first_from(&self.pages, from)
     }
 }

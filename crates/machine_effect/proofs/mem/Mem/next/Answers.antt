@@ -1,12 +1,12 @@
-use Rattle.machine_effect.proofs.MemoryLemmas.{first_from, none_from}
+use Rattle.std.proofs.Common.{◌∙◌}
+use Rattle.std.proofs.lemmas.Option.{IfSome_then}
+use Rattle.machine_effect.proofs.PageLemmas.{in_view, first_in_view}
 use Rattle.machine_effect.proofs.mem.Mem.next.Goals as goal
 
-pub returns-in-Some-clause-some : goal.returns-in-Some-clause-some
-returns-in-Some-clause-some c =
-    first_from c.self.inside.bytes c.args.self.now c.args.from c.in-Some.at.now c.in-Some.field-0-1.now c.range.result c.next.new.self
-    c.self.view_is (c.range.ensures.in_range tt) c.in-Some.ensures.steps
+pub returns-clause-some : goal.returns-clause-some
+returns-clause-some c =
+    IfSome_then c.first_from.result c.first_from.ensures.some (λ at. first_in_view c.self.inside.pages c.args.self.now c.self.view_is c.args.from at)
 
-pub returns-in-None-clause-none : goal.returns-in-None-clause-none
-returns-in-None-clause-none c =
-    λ _. none_from c.self.inside.bytes c.args.self.now c.args.from c.range.result
-    c.self.view_is (c.range.ensures.in_range tt) c.in-None.ensures.steps.0
+pub returns-clause-none : goal.returns-clause-none
+returns-clause-none c none q low =
+    in_view c.self.inside.pages c.args.self.now c.self.view_is q ∙ c.first_from.ensures.none none q low
