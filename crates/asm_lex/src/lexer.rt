@@ -1,6 +1,8 @@
-ghost use Rattle.std.specs.Prelude.{◌≡◌, [], ◌++◌, IfOk, IfErr, OnOk};
+ghost use Rattle.std.specs.Prelude.{◌≡◌, ◌≢◌, [], ◌++◌, IfOk, IfErr, OnOk};
 ghost use Rattle.asm_lex.specs.Cut.{tokens_of};
-ghost use Rattle.asm_lex.specs.Faults.{Judges, IsFirstRefusal, refusal_of, faults_of, first_fault, listed};
+ghost use Rattle.asm_lex.specs.Faults.{IsFirstRefusal, refusal_of, faults_of, first_fault};
+ghost use Rattle.goasm_base.specs.Refusals.{Judges};
+ghost use Rattle.std.specs.Option.{option_to_list};
 ghost use Rattle.asm_lex.specs.Faults as spec;
 ghost use Rattle.asm_lex.specs.Form.{AreTokens};
 
@@ -19,8 +21,8 @@ use std::alloc::Global;
 /// memory may come in place of any answer.
 #[tactic(auto, using(crate::proofs::CutLemmas::first_of_all, crate::proofs::FormLemmas::cut_formed, crate::proofs::FirstLemmas::refused_first, crate::proofs::FirstLemmas::none_found))]
 pub fn lex(alloc: Global, file: u32, bytes: &[u8]) -> Result<Tokens, LexNo>
-    ensures exact { Judges result (refusal_of file bytes.now) }
-    ensures first { IfErr result (IsFirstRefusal file (faults_of file bytes.now)) }
+    ensures exact { Judges LexNo.Memory result (refusal_of file bytes.now) }
+    ensures first { IfErr result (λ no. no ≢ LexNo.Memory → IsFirstRefusal file (faults_of file bytes.now) no) }
     ensures none { OnOk result (faults_of file bytes.now ≡ []) }
     ensures tokens { IfOk result (λ tokens. tokens ≡ tokens_of file bytes.now) }
     ensures formed { IfOk result (λ tokens. AreTokens tokens) }
@@ -38,7 +40,7 @@ pub fn lex(alloc: Global, file: u32, bytes: &[u8]) -> Result<Tokens, LexNo>
 // The first fault that may stand in a comment or a text too.
 fn fault_anywhere(bytes: &[u8]) -> Option<Fault>
     ensures { result
-        ≡ first_fault (listed (spec.utf8_fault bytes.now) ++ listed (spec.zero_fault bytes.now)) }
+        ≡ first_fault (option_to_list (spec.utf8_fault bytes.now) ++ option_to_list (spec.zero_fault bytes.now)) }
 {
     let utf8 = utf8_fault(bytes);
     match zero_fault(bytes) {
