@@ -9,7 +9,7 @@ use Rattle.asm_lex.specs.declared.fault.Cause.{Cause}
 use Rattle.asm_lex.specs.declared.fault.Cause.TheVariants.{NotUtf8, Open, Form, Stray}
 use Rattle.asm_lex.specs.declared.fault.Fault.{Fault}
 use Rattle.asm_lex.specs.declared.refusal.LexNo.{LexNo}
-use Rattle.asm_lex.specs.declared.refusal.LexNo.TheVariants.{L1, L2, L3, L4}
+use Rattle.asm_lex.specs.declared.refusal.LexNo.TheVariants.{L1, L2, L3, L4, Memory}
 use Rattle.asm_lex.specs.Lines.{line_after}
 use Rattle.asm_lex.specs.Cut.{cut_of}
 
@@ -66,6 +66,14 @@ refusal file fault = refusal_at fault.cause (record { file = file; line = fault.
   refusal_at Open pos = L2 pos
   refusal_at Form pos = L3 pos
   refusal_at Stray pos = L4 pos
+
+-- the place of a refusal is in this file; want of memory has none
+abbrev pub IsInFile : ℕ → LexNo → Type 0
+IsInFile file (L1 pos) = pos.file ≡ file
+IsInFile file (L2 pos) = pos.file ≡ file
+IsInFile file (L3 pos) = pos.file ≡ file
+IsInFile file (L4 pos) = pos.file ≡ file
+IsInFile file Memory = Unit {0}
 
 -- the first refusal of a source
 abbrev pub refusal_of : ℕ → List ℕ → Option LexNo

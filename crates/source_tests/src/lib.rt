@@ -1,7 +1,11 @@
-//! Tests of the crates that read sources and build lists, a module for each: `goasm_list` and `asm_lex`.
+//! Tests of the crates that read a build's sources: lists, tokens, macros, and the lines that tell refusals.
 #![tactic(auto)]
 
 #[cfg(test)]
 mod lex_tests;
 #[cfg(test)]
 mod list_tests;
+#[cfg(test)]
+mod macro_tests;
+#[cfg(test)]
+mod text_tests;

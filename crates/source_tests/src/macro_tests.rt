@@ -1,10 +1,14 @@
-use crate::builds::{LIMITS, expand_within, greatest_of};
-use crate::limits::Limits;
-use crate::{MacroNo, expand, line_names};
 use asm_lex::{Token, Tokens, lex};
+use asm_macro::{Limits, MacroNo, expand, expand_within, greatest_of, line_names};
 use goasm_base::{Memory, Name, Pos, Text};
 use std::alloc::Global;
 use std::test::Fail;
+
+const LARGE: Limits = Limits {
+    tokens: 4_000_000,
+    uses: 4_000_000,
+    nesting: 100,
+};
 
 const SMALL: Limits = Limits {
     tokens: 6,
@@ -149,7 +153,7 @@ const LIMITED: [(&str, &str); 12] = [
 ];
 
 fn named_tokens(alloc: Global, file: u32, name: &str, text: &str) -> Result<(Name, Tokens), Fail> {
-    let name = Name::new(Vec::from_slice(alloc, name.as_bytes())?);
+    let name = Name::from_slice(alloc, name.as_bytes())?;
     Ok((name, lex(alloc, file, text.as_bytes())?))
 }
 
@@ -246,7 +250,7 @@ fn shown(
 fn sources(rt: HostRuntime) -> Result<(), Fail> {
     let alloc = rt.alloc();
     for (source, expected) in SOURCES {
-        let text = shown(alloc, LIMITS, source, &includes(alloc)?, &defines(alloc)?)?;
+        let text = shown(alloc, LARGE, source, &includes(alloc)?, &defines(alloc)?)?;
         assert_eq!(rt; text.finish().as_slice(), expected.as_bytes(), "{source}");
     }
     Ok(())
@@ -298,7 +302,7 @@ fn many_defines(rt: HostRuntime) -> Result<(), Fail> {
     if names.len() > 100 || greatest_of(&[], &[], &defines) > 100 {
         return Err("too many files".into());
     }
-    let refused = expand_within(alloc, LIMITS, &[], &[], &defines).err();
+    let refused = expand_within(alloc, LARGE, &[], &[], &defines).err();
     assert_eq!(rt; refused, Some(MacroNo::M6(Pos { file: 0, line: 2 })));
     Ok(())
 }
