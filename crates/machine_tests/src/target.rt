@@ -1,6 +1,6 @@
 use asm_target::{
-    Few, Part, Picked, Processor, Refer, To, first_instr, flow_at, one_breach, one_listing, runs_append,
-    runs_cut, same,
+    Few, Part, Picked, Processor, Refer, To, first_instr, flow_at, one_breach, one_listing,
+    runs_append, runs_cut, same,
 };
 use asm_target_sample::{Instr, Register, Sample, count_moves, depth_after, read_all, spell_all};
 use goasm_base::Memory;
