@@ -15,27 +15,58 @@ fn expect_fits<R: Abort>(rt: &R, rows: &[(Instr, bool)]) {
 
 fn locked(lock: bool, to: Rm) -> Instr {
     let (op, width, from) = (Arithmetic::Add, Width::Q, Reg::Ax);
-    Instr::ArithmeticReg { op, lock, width, from, to }
+    Instr::ArithmeticReg {
+        op,
+        lock,
+        width,
+        from,
+        to,
+    }
 }
 
 fn quad(constant: i64) -> Instr {
-    Instr::LoadQuad { constant, to: Reg::Ax }
+    Instr::LoadQuad {
+        constant,
+        to: Reg::Ax,
+    }
 }
 
 fn shift(width: Width, count: u8) -> Instr {
-    Instr::ShiftConst { op: ShiftOp::Shl, width, count, rm: AX }
+    Instr::ShiftConst {
+        op: ShiftOp::Shl,
+        width,
+        count,
+        rm: AX,
+    }
 }
 
 fn indexed(index: Reg) -> Mem {
-    Mem::Indexed { base: Reg::Ax, index, scale: Scale::One, disp: 0 }
+    Mem::Indexed {
+        base: Reg::Ax,
+        index,
+        scale: Scale::One,
+        disp: 0,
+    }
 }
 
 #[test]
 fn knows_what_is_listed(rt: HostRuntime) {
     let rows = [
         (Instr::default(), true),
-        (Instr::Lea { from: indexed(Reg::Sp), to: Reg::Ax }, false),
-        (Instr::Lea { from: indexed(Reg::Bp), to: Reg::Ax }, true),
+        (
+            Instr::Lea {
+                from: indexed(Reg::Sp),
+                to: Reg::Ax,
+            },
+            false,
+        ),
+        (
+            Instr::Lea {
+                from: indexed(Reg::Bp),
+                to: Reg::Ax,
+            },
+            true,
+        ),
         (locked(true, AX), false),
         (locked(true, Rm::Mem(indexed(Reg::Cx))), true),
         (quad(-1), true),
@@ -66,9 +97,19 @@ fn numbers_come_back(rt: HostRuntime) {
 #[test]
 fn tells_what_is_written(rt: HostRuntime) {
     let instr = locked(true, Rm::Mem(indexed(Reg::Cx)));
-    assert_eq!(rt; mnemonic_of(&instr), Mnemonic::Arithmetic(Arithmetic::Add, Width::Q));
+    assert_eq!(rt;
+        mnemonic_of(&instr),
+        Mnemonic::Arithmetic(Arithmetic::Add, Width::Q)
+    );
     assert_eq!(rt; mnemonic_of(&instr).width(), Some(Width::Q));
-    assert_eq!(rt; mnemonic_of(&Instr::SetCc { code: Cc::Zero, to: AX }).cc(), Some(Cc::Zero));
+    assert_eq!(rt;
+        mnemonic_of(&Instr::SetCc {
+            code: Cc::Zero,
+            to: AX
+        })
+        .cc(),
+        Some(Cc::Zero)
+    );
     assert!(rt; is_locked(&instr));
     let (from, to) = operands_of(&instr);
     assert_eq!(rt; from, Some(Operand::Reg(Reg::Ax)));
@@ -80,15 +121,39 @@ fn tells_what_is_written(rt: HostRuntime) {
 #[test]
 fn shows_addresses(rt: HostRuntime) -> Result<(), Fail> {
     for (digits, at, text) in [
-        ("4c892580000000", 231, b"MOVQ R12, 0x000000000000016e(SB)".as_slice()),
-        ("440fb72d08000000", 53, b"MOVWLZX 0x0000000000000045(SB), R13"),
+        (
+            "4c892580000000",
+            231,
+            b"MOVQ R12, 0x000000000000016e(SB)".as_slice(),
+        ),
+        (
+            "440fb72d08000000",
+            53,
+            b"MOVWLZX 0x0000000000000045(SB), R13",
+        ),
         ("c605ffffffff61", 352, b"MOVB $97, 0x0000000000000166(SB)"),
-        ("f3440f6f1580ffffff", 2331, b"MOVOU 0x00000000000008a4(SB), X10"),
-        ("f048012508000000", 194, b"LOCK; ADDQ SP, 0x00000000000000d2(SB)"),
-        ("f30fb80d01000000", 671, b"POPCNTL 0x00000000000002a8(SB), CX"),
+        (
+            "f3440f6f1580ffffff",
+            2331,
+            b"MOVOU 0x00000000000008a4(SB), X10",
+        ),
+        (
+            "f048012508000000",
+            194,
+            b"LOCK; ADDQ SP, 0x00000000000000d2(SB)",
+        ),
+        (
+            "f30fb80d01000000",
+            671,
+            b"POPCNTL 0x00000000000002a8(SB), CX",
+        ),
         ("48c10580ffffff06", 6, b"ROLQ $6, 0xffffffffffffff8e(SB)"),
         ("4887057f000000", 4634, b"XCHGQ AX, 0x00000000000012a0(SB)"),
-        ("488d0510000000", 0xffff_ffff_ffff_fff0, b"LEAQ 0x0000000000000007(SB), AX"),
+        (
+            "488d0510000000",
+            0xffff_ffff_ffff_fff0,
+            b"LEAQ 0x0000000000000007(SB), AX",
+        ),
         ("7aa0", 163, b"JPS 0x0000000000000045"),
         ("e9004974e4", 33, b"JMP 0xffffffffe4744926"),
         ("0f8400000100", 205, b"JEQ 0x00000000000100d3"),
