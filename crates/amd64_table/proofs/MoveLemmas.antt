@@ -341,16 +341,6 @@ IsNear Keep = Unit {0}
 IsNear (By k) = IsStackDistance k
 IsNear Other = Unit {0}
 
-written_near : (reg : Reg) → IsNear (written reg)
-unfolding IsNear
-written_near Sp = tt
-written_near _ = tt
-
-written_rm_near : (rm : Rm) → IsNear (written_rm rm)
-unfolding IsNear
-written_rm_near (operand.Reg reg) = written_near reg
-written_rm_near (operand.Mem mem) = tt
-
 -- a number of 32 bits with a sign, and its opposite
 number_near : (c : ℤ) → fits_bits 32 c ≡ true → IsStackDistance c
 number_near (pos n) near = let low : 2 * n < 2 ^ 32 = ltb-true (2 * n) (2 ^ 32) near in record { least = omega (arith, ints); most = omega (arith, ints) }
@@ -376,51 +366,18 @@ unfolding IsNear
 moved_rm_near op width c (operand.Reg reg) near = moved_reg_near op width c reg near
 moved_rm_near op width c (operand.Mem mem) near = tt
 
-reg_rm_near : (op : RegRm) (rm : Rm) → IsNear (reg_rm_move op rm)
-unfolding IsNear
-reg_rm_near reg_rm.Mov rm = written_rm_near rm
-reg_rm_near _ rm = tt
-
-mem_reg_near : (op : MemReg) (reg : Reg) → IsNear (mem_reg_move op reg)
-unfolding IsNear
-mem_reg_near mem_reg.Mov reg = written_near reg
-mem_reg_near mem_reg.Cmp reg = tt
-mem_reg_near (mem_reg.Arithmetic op) reg = written_near reg
-
 stack_near : (op : Stack) (reg : Reg) → IsNear (stack_move op reg)
 unfolding IsNear
 stack_near stack.Push reg = record { least = omega (arith, ints); most = omega (arith, ints) }
 stack_near stack.Pop Sp = tt
 stack_near stack.Pop _ = record { least = omega (arith, ints); most = omega (arith, ints) }
 
-atomic_near : (op : Atomic) (reg : Reg) → IsNear (atomic_move op reg)
-unfolding IsNear
-atomic_near atomic.CompareExchange reg = tt
-atomic_near atomic.ExchangeAdd reg = written_near reg
-
 move_near : (i : Instr) → fits i ≡ true → IsNear (move_of i)
 unfolding move_of fits IsNear
-move_near (instr.RegRm op width reg rm) listed = reg_rm_near op rm
-move_near (instr.ArithmeticReg op lock width from to) listed = written_rm_near to
-move_near (instr.MemReg op width mem reg) listed = mem_reg_near op reg
 move_near (instr.ArithmeticConst op lock width constant to) listed =
     moved_rm_near op width constant to (and_parts (fits_lock lock to && fits_rm to) (fits_bits 32 constant) listed).1
-move_near (instr.Extend op from to) listed = written_near to
-move_near (instr.LoadLong constant to) listed = written_near to
-move_near (instr.LoadQuad constant to) listed = written_near to
-move_near (instr.Lea from to) listed = written_near to
-move_near (instr.Unary op lock width rm) listed = written_rm_near rm
-move_near (instr.RmReg op width from to) listed = written_near to
-move_near (instr.ShiftConst op width count rm) listed = written_rm_near rm
-move_near (instr.ShiftCx op width rm) listed = written_rm_near rm
 move_near (instr.Stack op reg) listed = stack_near op reg
-move_near (instr.Exchange width reg mem) listed = written_near reg
-move_near (instr.Atomic op lock width reg mem) listed = atomic_near op reg
-move_near (instr.SetCc code to) listed = written_rm_near to
-move_near (instr.MoveCc code width from to) listed = written_near to
-move_near (instr.SwapBytes width reg) listed = written_near reg
-move_near (instr.LoadTls to) listed = written_near to
-move_near _ listed = tt
+move_near i listed = search rules
 
 -- each constant by which an instruction moves the stack pointer lies between -2^31 and 2^31
 pub moves_near : (i : Instr) → fits i ≡ true → (k : ℤ) → move_of i ≡ By k → IsStackDistance k
