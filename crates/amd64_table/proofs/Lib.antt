@@ -3,3 +3,4 @@ pub mod RegisterLemmas
 pub mod NextLemmas
 pub mod BoundLemmas
 pub mod StepLemmas
+pub mod LongLemmas

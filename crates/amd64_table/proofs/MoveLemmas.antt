@@ -1,4 +1,4 @@
-use Rattle.std.proofs.Common.{◌≡◌, ℕ, zero, suc, ℤ, pos, negsuc, ◌-◌, ◌*◌, ◌%◌, ◌^◌, ◌<◌, ◌≤◌, ◌==◌, Bool, true, false, ◌&&◌, [], ◌∷◌, Option, Some, None, refl, ap, ◌∙◌, arith, if◌then◌else◌, ◌-ℤ◌, ◌≤ℤ◌}
+use Rattle.std.proofs.Common.{◌≡◌, ℕ, zero, suc, ℤ, pos, negsuc, ◌-◌, ◌*◌, ◌%◌, ◌^◌, ◌<◌, ◌≤◌, ◌==◌, Bool, true, false, ◌&&◌, [], ◌∷◌, Option, Some, None, refl, ap, ◌∙◌, arith, rules, if◌then◌else◌, ◌-ℤ◌, ◌≤ℤ◌}
 use Rattle.std.proofs.lemmas.Bool.{and_parts, ltb-true, lt-ltb, le-ltb}
 use Rattle.std.proofs.lemmas.Int.{ints}
 use Rattle.machine_effect.specs.declared.effect.Effect.{Effect}
@@ -169,18 +169,7 @@ sp_const : (op : Arithmetic) (width : Width) (c : ℤ) → fits_bits 32 c ≡ tr
 unfolding result_of flags_of bits_of
 sp_const arithmetic.Add Q c near = ap By (same_signed c near)
 sp_const arithmetic.Sub Q c near = ap By (opposite_signed c near)
-sp_const arithmetic.Add L c near = refl
-sp_const arithmetic.Sub L c near = refl
-sp_const arithmetic.Or Q c near = refl
-sp_const arithmetic.Or L c near = refl
-sp_const arithmetic.Adc Q c near = refl
-sp_const arithmetic.Adc L c near = refl
-sp_const arithmetic.Sbb Q c near = refl
-sp_const arithmetic.Sbb L c near = refl
-sp_const arithmetic.And Q c near = refl
-sp_const arithmetic.And L c near = refl
-sp_const arithmetic.Xor Q c near = refl
-sp_const arithmetic.Xor L c near = refl
+sp_const op width c near = search rules
 
 reg_const : (op : Arithmetic) (width : Width) (c : ℤ) (reg : Reg) → fits_bits 32 c ≡ true
     → sp_move_of (computing ((number_of reg, result_of op (reg_atom reg) (signed_atom c) (bits_of width)) ∷ []) None None
@@ -221,11 +210,7 @@ mem_reg_moves (mem_reg.Arithmetic op) width mem reg end =
 
 extended_free : (op : Extend) (a : Atom) → added_to 4 (extended op a) ≡ None
 unfolding extended
-extended_free extend.ByteZero a = refl
-extended_free extend.WordZero a = refl
-extended_free extend.ByteSign a = refl
-extended_free extend.WordSign a = refl
-extended_free extend.LongSign a = refl
+extended_free op a = search rules
 
 unary_moves : (op : Unary) (width : Width) (rm : Rm) (end : ℕ) → sp_move_of (unary_effect op width rm end) 4 ≡ written_rm rm
 unfolding unary_effect unary_value unary_flags
@@ -237,9 +222,7 @@ unary_moves unary.Neg width rm end = changing_written width end rm _ _ (none_eit
 rm_reg_free : (op : RmReg) (from to : Atom) (width : ℕ) → added_to 4 (rm_reg_value op from to width) ≡ None
 unfolding rm_reg_value
 rm_reg_free rm_reg.Imul from to width = none_either (width == 64)
-rm_reg_free rm_reg.Bsf from to width = none_either (width == 64)
-rm_reg_free rm_reg.Bsr from to width = none_either (width == 64)
-rm_reg_free rm_reg.Popcnt from to width = none_either (width == 64)
+rm_reg_free _ from to width = none_either (width == 64)
 
 shift_moves : (op : ShiftOp) (width : Width) (count : Atom) (rm : Rm) (end : ℕ)
     → sp_move_of (shift_effect op width count rm end) 4 ≡ written_rm rm
@@ -291,31 +274,19 @@ store_low_kept size.Word from to end = storing_kept 2 end to _
 
 short_kept : (code : Option Cc) (distance : ℤ) (end : ℕ) → sp_move_of (short_effect code distance end) 4 ≡ Keep
 unfolding short_effect
-short_kept None distance end = refl
-short_kept (Some code) distance end = refl
+short_kept code distance end = search rules
 
 near_kept : (op : Near) (distance : ℤ) (end : ℕ) → sp_move_of (near_effect op distance end) 4 ≡ Keep
 unfolding near_effect
-near_kept near.Jmp distance end = refl
-near_kept near.Call distance end = refl
-near_kept (near.If code) distance end = refl
+near_kept op distance end = search rules
 
 indirect_kept : (op : Indirect) (rm : Rm) (end : ℕ) → sp_move_of (indirect_effect op rm end) 4 ≡ Keep
 unfolding indirect_effect
-indirect_kept indirect.Jmp rm end = refl
-indirect_kept indirect.Call rm end = refl
+indirect_kept op rm end = search rules
 
 plain_kept : (op : Plain) → sp_move_of (plain_effect op) 4 ≡ Keep
 unfolding plain_effect loading number_of
-plain_kept plain.Pause = refl
-plain_kept plain.Mfence = refl
-plain_kept plain.Cdq = refl
-plain_kept plain.Cqo = refl
-plain_kept plain.Ret = refl
-plain_kept plain.Syscall = refl
-plain_kept plain.Cpuid = refl
-plain_kept plain.Rdtsc = refl
-plain_kept plain.Undef = refl
+plain_kept op = search rules
 
 mul_div_kept : (op : MulDiv) (width : Width) (rm : Rm) (end : ℕ) → sp_move_of (mul_div_effect op width rm end) 4 ≡ Keep
 unfolding mul_div_effect number_of
@@ -370,16 +341,6 @@ IsNear Keep = Unit {0}
 IsNear (By k) = IsStackDistance k
 IsNear Other = Unit {0}
 
-written_near : (reg : Reg) → IsNear (written reg)
-unfolding IsNear
-written_near Sp = tt
-written_near _ = tt
-
-written_rm_near : (rm : Rm) → IsNear (written_rm rm)
-unfolding IsNear
-written_rm_near (operand.Reg reg) = written_near reg
-written_rm_near (operand.Mem mem) = tt
-
 -- a number of 32 bits with a sign, and its opposite
 number_near : (c : ℤ) → fits_bits 32 c ≡ true → IsStackDistance c
 number_near (pos n) near = let low : 2 * n < 2 ^ 32 = ltb-true (2 * n) (2 ^ 32) near in record { least = omega (arith, ints); most = omega (arith, ints) }
@@ -393,18 +354,7 @@ moved_near : (op : Arithmetic) (width : Width) (c : ℤ) → fits_bits 32 c ≡ 
 unfolding IsNear
 moved_near arithmetic.Add Q c near = number_near c near
 moved_near arithmetic.Sub Q c near = opposite_near c near
-moved_near arithmetic.Add L c near = tt
-moved_near arithmetic.Sub L c near = tt
-moved_near arithmetic.Or Q c near = tt
-moved_near arithmetic.Or L c near = tt
-moved_near arithmetic.Adc Q c near = tt
-moved_near arithmetic.Adc L c near = tt
-moved_near arithmetic.Sbb Q c near = tt
-moved_near arithmetic.Sbb L c near = tt
-moved_near arithmetic.And Q c near = tt
-moved_near arithmetic.And L c near = tt
-moved_near arithmetic.Xor Q c near = tt
-moved_near arithmetic.Xor L c near = tt
+moved_near _ _ c near = tt
 
 moved_reg_near : (op : Arithmetic) (width : Width) (c : ℤ) (reg : Reg) → fits_bits 32 c ≡ true → IsNear (moved_reg op width c reg)
 unfolding IsNear
@@ -416,51 +366,18 @@ unfolding IsNear
 moved_rm_near op width c (operand.Reg reg) near = moved_reg_near op width c reg near
 moved_rm_near op width c (operand.Mem mem) near = tt
 
-reg_rm_near : (op : RegRm) (rm : Rm) → IsNear (reg_rm_move op rm)
-unfolding IsNear
-reg_rm_near reg_rm.Mov rm = written_rm_near rm
-reg_rm_near _ rm = tt
-
-mem_reg_near : (op : MemReg) (reg : Reg) → IsNear (mem_reg_move op reg)
-unfolding IsNear
-mem_reg_near mem_reg.Mov reg = written_near reg
-mem_reg_near mem_reg.Cmp reg = tt
-mem_reg_near (mem_reg.Arithmetic op) reg = written_near reg
-
 stack_near : (op : Stack) (reg : Reg) → IsNear (stack_move op reg)
 unfolding IsNear
 stack_near stack.Push reg = record { least = omega (arith, ints); most = omega (arith, ints) }
 stack_near stack.Pop Sp = tt
 stack_near stack.Pop _ = record { least = omega (arith, ints); most = omega (arith, ints) }
 
-atomic_near : (op : Atomic) (reg : Reg) → IsNear (atomic_move op reg)
-unfolding IsNear
-atomic_near atomic.CompareExchange reg = tt
-atomic_near atomic.ExchangeAdd reg = written_near reg
-
 move_near : (i : Instr) → fits i ≡ true → IsNear (move_of i)
 unfolding move_of fits IsNear
-move_near (instr.RegRm op width reg rm) listed = reg_rm_near op rm
-move_near (instr.ArithmeticReg op lock width from to) listed = written_rm_near to
-move_near (instr.MemReg op width mem reg) listed = mem_reg_near op reg
 move_near (instr.ArithmeticConst op lock width constant to) listed =
     moved_rm_near op width constant to (and_parts (fits_lock lock to && fits_rm to) (fits_bits 32 constant) listed).1
-move_near (instr.Extend op from to) listed = written_near to
-move_near (instr.LoadLong constant to) listed = written_near to
-move_near (instr.LoadQuad constant to) listed = written_near to
-move_near (instr.Lea from to) listed = written_near to
-move_near (instr.Unary op lock width rm) listed = written_rm_near rm
-move_near (instr.RmReg op width from to) listed = written_near to
-move_near (instr.ShiftConst op width count rm) listed = written_rm_near rm
-move_near (instr.ShiftCx op width rm) listed = written_rm_near rm
 move_near (instr.Stack op reg) listed = stack_near op reg
-move_near (instr.Exchange width reg mem) listed = written_near reg
-move_near (instr.Atomic op lock width reg mem) listed = atomic_near op reg
-move_near (instr.SetCc code to) listed = written_rm_near to
-move_near (instr.MoveCc code width from to) listed = written_near to
-move_near (instr.SwapBytes width reg) listed = written_near reg
-move_near (instr.LoadTls to) listed = written_near to
-move_near _ listed = tt
+move_near i listed = search rules
 
 -- each constant by which an instruction moves the stack pointer lies between -2^31 and 2^31
 pub moves_near : (i : Instr) → fits i ≡ true → (k : ℤ) → move_of i ≡ By k → IsStackDistance k

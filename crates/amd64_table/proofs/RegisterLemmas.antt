@@ -1,48 +1,16 @@
-use Rattle.std.proofs.Common.{◌≡◌, ℕ, ◌+◌, ◌%◌, ◌<◌, ◌≤◌, true, false, nat_le, arith}
+use Rattle.std.proofs.Common.{◌≡◌, ℕ, ◌+◌, ◌%◌, ◌<◌, ◌≤◌, true, false, nat_le, arith, rules}
 use Rattle.std.proofs.lemmas.Bool.{leb-true, leb-false}
 use Rattle.amd64_table.specs.declared.reg.Reg.{Reg}
-use Rattle.amd64_table.specs.declared.reg.Reg.TheVariants.{Ax, Cx, Dx, Bx, Sp, Bp, Si, Di, R8, R9, R10, R11, R12, R13, R14, R15}
 use Rattle.amd64_table.specs.declared.xmm.Xmm.{Xmm}
-use Rattle.amd64_table.specs.declared.xmm.Xmm.TheVariants.{X0, X1, X2, X3, X4, X5, X6, X7, X8, X9, X10, X11, X12, X13, X14, X15}
 use Rattle.amd64_table.specs.Registers.{number_of, xmm_number}
 
 pub number_below : (reg : Reg) → number_of reg < 16
 unfolding number_of
-number_below Ax = omega arith
-number_below Cx = omega arith
-number_below Dx = omega arith
-number_below Bx = omega arith
-number_below Sp = omega arith
-number_below Bp = omega arith
-number_below Si = omega arith
-number_below Di = omega arith
-number_below R8 = omega arith
-number_below R9 = omega arith
-number_below R10 = omega arith
-number_below R11 = omega arith
-number_below R12 = omega arith
-number_below R13 = omega arith
-number_below R14 = omega arith
-number_below R15 = omega arith
+number_below reg = search rules
 
 pub xmm_below : (xmm : Xmm) → xmm_number xmm < 16
 unfolding xmm_number
-xmm_below X0 = omega arith
-xmm_below X1 = omega arith
-xmm_below X2 = omega arith
-xmm_below X3 = omega arith
-xmm_below X4 = omega arith
-xmm_below X5 = omega arith
-xmm_below X6 = omega arith
-xmm_below X7 = omega arith
-xmm_below X8 = omega arith
-xmm_below X9 = omega arith
-xmm_below X10 = omega arith
-xmm_below X11 = omega arith
-xmm_below X12 = omega arith
-xmm_below X13 = omega arith
-xmm_below X14 = omega arith
-xmm_below X15 = omega arith
+xmm_below xmm = search rules
 
 high_number : (n low : ℕ) → n < 16 → nat_le 8 n ≡ true → n % 8 ≡ low → n ≡ low + 8
 high_number n low below high is = let over : 8 ≤ n = leb-true 8 n high in omega arith

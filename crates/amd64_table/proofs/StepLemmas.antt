@@ -112,9 +112,12 @@ to_reg : (n end past : ℕ) (before after : State) (a : Atom) (reg : Reg) (load 
     → Moves before after end n (Some from, Some (operand.Reg reg))
 unfolding operate
 to_reg n end past before after a reg load from most state applies told =
-    let x = atom_of before applies.loaded a in
-    (x, told, takes past before after reg (copy_of a (8 * n)) load (x % 2 ^ (8 * n)) state applies
-    (λ y gives. let e : y ≡ x % 2 ^ (8 * n) = gives in rw e (cut x (8 * n) most)))
+    let x = atom_of before applies.loaded a in (
+      x,
+      told,
+      takes past before after reg (copy_of a (8 * n)) load (x % 2 ^ (8 * n)) state applies
+          (λ y gives. let e : y ≡ x % 2 ^ (8 * n) = gives in rw e (cut x (8 * n) most)),
+    )
 
 stores_at : (before after : State) (loaded n end x : ℕ) (mem : Mem) (value : Value)
     → Stores before loaded (Some (access_of n end mem, value)) after.mem → ((y : ℕ) → Gives before loaded value y → y ≡ x)
@@ -147,27 +150,34 @@ to_signed : (n end past : ℕ) (before after : State) (rm : Rm) (reg : Reg) → 
 unfolding operate
 to_signed n end past before after rm reg state applies =
     let x = atom_of before applies.loaded (rm_atom rm) in
-    let same : extended_from n (x % 2 ^ (8 * n)) ≡ extended_from n x = rw (twice x (8 * n)) refl in
-    (x, source before n end applies.loaded rm applies.loads,
-    takes past before after reg _ (load_of n end rm) (extended_from n (x % 2 ^ (8 * n))) state applies
-    (λ y gives. let e : y ≡ extended_from n x = gives in rw (e, same) (word_cut (signed (8 * n) x))))
+    let same : extended_from n (x % 2 ^ (8 * n)) ≡ extended_from n x = rw (twice x (8 * n)) refl in (
+      x,
+      source before n end applies.loaded rm applies.loads,
+      takes past before after reg _ (load_of n end rm) (extended_from n (x % 2 ^ (8 * n))) state applies
+          (λ y gives. let e : y ≡ extended_from n x = gives in rw (e, same) (word_cut (signed (8 * n) x))),
+    )
 
 to_wide : (end past : ℕ) (before after : State) (mem : Mem) (xmm : Xmm) → IsState before
     → (applies : Applies (load_wide_effect mem xmm end) past before after)
     → Moves before after end 16 (Some (operand.Mem mem), Some (operand.Wide xmm))
 unfolding load_wide_effect
 to_wide end past before after mem xmm state applies =
-    let inside : xmm_number xmm < length before.wide = rw state.wide_len (xmm_below xmm) in
-    (applies.loaded, loads_at before 16 end applies.loaded mem applies.loads,
-    (rw applies.wide (get_or-set_same before.wide (xmm_number xmm) (applies.loaded % 2 ^ 128) 0 inside), applies.mem))
+    let inside : xmm_number xmm < length before.wide = rw state.wide_len (xmm_below xmm) in (
+      applies.loaded,
+      loads_at before 16 end applies.loaded mem applies.loads,
+      (rw applies.wide (get_or-set_same before.wide (xmm_number xmm) (applies.loaded % 2 ^ 128) 0 inside), applies.mem),
+    )
 
 long_to_reg : (end past : ℕ) (before after : State) (constant : ℕ) (reg : Reg) → IsState before
     → (applies : Applies (computing ((number_of reg, copy_of (atom.Const constant) 32) ∷ []) None None flag.Keep) past before after)
     → Moves before after end 4 (Some (operand.Const (pos constant)), Some (operand.Reg reg))
 unfolding operate
-long_to_reg end past before after constant reg state applies =
-    (constant % 2 ^ 64, refl, takes past before after reg _ None (constant % 2 ^ 64 % 2 ^ 32) state applies
-    (λ y gives. let e : y ≡ constant % 2 ^ 32 = gives in omega arith))
+long_to_reg end past before after constant reg state applies = (
+  constant % 2 ^ 64,
+  refl,
+  takes past before after reg _ None (constant % 2 ^ 64 % 2 ^ 32) state applies
+      (λ y gives. let e : y ≡ constant % 2 ^ 32 = gives in omega arith),
+)
 
 -- each step is as its text tells
 pub means : (i : Instr) → MeansItsText i
@@ -180,22 +190,30 @@ means (instr.RegRm reg_rm.Mov Q reg (rms.Mem to)) end past before after state ap
     (to_mem 8 end past before after (reg_atom reg) to (operand.Reg reg) applies refl, refl)
 means (instr.RegRm reg_rm.Mov L reg (rms.Mem to)) end past before after state applies =
     (to_mem 4 end past before after (reg_atom reg) to (operand.Reg reg) applies refl, refl)
-means (instr.MemReg mem_reg.Mov Q mem reg) end past before after state applies =
-    (to_reg 8 end past before after atom.Loaded reg (Some (access_of 8 end mem)) (operand.Mem mem) (lit≤ tt) state applies
-    (loads_at before 8 end applies.loaded mem applies.loads), refl)
-means (instr.MemReg mem_reg.Mov L mem reg) end past before after state applies =
-    (to_reg 4 end past before after atom.Loaded reg (Some (access_of 4 end mem)) (operand.Mem mem) (lit≤ tt) state applies
-    (loads_at before 4 end applies.loaded mem applies.loads), refl)
+means (instr.MemReg mem_reg.Mov Q mem reg) end past before after state applies = (
+  to_reg 8 end past before after atom.Loaded reg (Some (access_of 8 end mem)) (operand.Mem mem) (lit≤ tt) state applies
+      (loads_at before 8 end applies.loaded mem applies.loads),
+  refl,
+)
+means (instr.MemReg mem_reg.Mov L mem reg) end past before after state applies = (
+  to_reg 4 end past before after atom.Loaded reg (Some (access_of 4 end mem)) (operand.Mem mem) (lit≤ tt) state applies
+      (loads_at before 4 end applies.loaded mem applies.loads),
+  refl,
+)
 means (instr.StoreLow size.Byte from to) end past before after state applies =
     (to_mem 1 end past before after (reg_atom from) to (operand.Reg from) applies refl, refl)
 means (instr.StoreLow size.Word from to) end past before after state applies =
     (to_mem 2 end past before after (reg_atom from) to (operand.Reg from) applies refl, refl)
-means (instr.Extend extend.ByteZero from to) end past before after state applies =
-    (to_reg 1 end past before after (rm_atom from) to (load_of 1 end from) (rm_operand from) (lit≤ tt) state applies
-    (source before 1 end applies.loaded from applies.loads), refl)
-means (instr.Extend extend.WordZero from to) end past before after state applies =
-    (to_reg 2 end past before after (rm_atom from) to (load_of 2 end from) (rm_operand from) (lit≤ tt) state applies
-    (source before 2 end applies.loaded from applies.loads), refl)
+means (instr.Extend extend.ByteZero from to) end past before after state applies = (
+  to_reg 1 end past before after (rm_atom from) to (load_of 1 end from) (rm_operand from) (lit≤ tt) state applies
+      (source before 1 end applies.loaded from applies.loads),
+  refl,
+)
+means (instr.Extend extend.WordZero from to) end past before after state applies = (
+  to_reg 2 end past before after (rm_atom from) to (load_of 2 end from) (rm_operand from) (lit≤ tt) state applies
+      (source before 2 end applies.loaded from applies.loads),
+  refl,
+)
 means (instr.Extend extend.ByteSign from to) end past before after state applies =
     (to_signed 1 end past before after from to state applies, refl)
 means (instr.Extend extend.WordSign from to) end past before after state applies =
@@ -215,9 +233,11 @@ means (instr.StoreByte constant to) end past before after state applies =
 means (instr.LoadWide from to) end past before after state applies = (to_wide end past before after from to state applies, refl)
 means (instr.StoreWide from to) end past before after state applies =
     (to_mem 16 end past before after (atom.Wide (xmm_number from)) to (operand.Wide from) applies refl, refl)
-means (instr.LoadTls to) end past before after state applies =
-    (to_reg 8 end past before after atom.Loaded to _ operand.Tls (lit≤ tt) state applies
-    (rw add-zero at applies.loads), refl)
+means (instr.LoadTls to) end past before after state applies = (
+  to_reg 8 end past before after atom.Loaded to _ operand.Tls (lit≤ tt) state applies
+      (rw add-zero at applies.loads),
+  refl,
+)
 means (instr.Short None distance) end past before after state applies = refl
 means (instr.Short (Some code) distance) end past before after state applies =
     ap (λ test. if test then next.Jump (moved_by end distance) else next.Fall) (met code before.flags (atom_of before applies.loaded))

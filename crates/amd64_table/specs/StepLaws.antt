@@ -1,13 +1,14 @@
 -- What moves, branches and what leaves the program do, in words over a step: by the name and the operands as they are written.
-use Rattle.std.specs.Prelude.{◌≡◌, ℕ, ℤ, Bool, ◌+◌, ◌-◌, ◌*◌, ◌%◌, ◌^◌, ◌&&◌, ◌||◌, not, slice_index, Option, Some, None, if◌then◌else◌}
+use Rattle.std.specs.Prelude.{◌≡◌, ◌⊎◌, ℕ, ℤ, Bool, true, All, ◌==◌, ◌<◌, ◌+◌, ◌-◌, ◌*◌, ◌%◌, ◌^◌, ◌&&◌, ◌||◌, not, slice_index, Option, Some, None, if◌then◌else◌}
 use Rattle.std.specs.Bool.{beq}
 use Rattle.machine_effect.specs.declared.state.State.{State}
 use Rattle.machine_effect.specs.declared.state.Flags.{Flags}
+use Rattle.machine_effect.specs.declared.effect.Value.{Value}
 use Rattle.machine_effect.specs.declared.next.Next.{Next}
 use Rattle.machine_effect.specs.declared.next.Next.TheVariants as next
 use Rattle.machine_effect.specs.Numbers.{unsigned, signed, moved_by}
 use Rattle.machine_effect.specs.Memory.{number_at, put, bytes_of}
-use Rattle.machine_effect.specs.Values.{reg_of}
+use Rattle.machine_effect.specs.Values.{reg_of, atom_of, equal, Gives}
 use Rattle.machine_effect.specs.Applies.{IsState, Applies}
 use Rattle.machine_effect.specs.Witness.{resolved}
 use Rattle.amd64_table.specs.declared.condition.Cc.{Cc}
@@ -18,16 +19,19 @@ use Rattle.amd64_table.specs.declared.memory.Mem.TheVariants as memory
 use Rattle.amd64_table.specs.declared.op.StoreSize.TheVariants as size
 use Rattle.amd64_table.specs.declared.op.Extend.{Extend}
 use Rattle.amd64_table.specs.declared.op.Extend.TheVariants as extend
+use Rattle.amd64_table.specs.declared.op.RmReg.TheVariants as rm_reg
+use Rattle.amd64_table.specs.declared.op.Atomic.TheVariants as atomic
 use Rattle.amd64_table.specs.declared.op.Plain.TheVariants as plain
 use Rattle.amd64_table.specs.declared.operand.Operand.{Operand}
 use Rattle.amd64_table.specs.declared.operand.Operand.TheVariants as operand
 use Rattle.amd64_table.specs.declared.mnemonic.Mnemonic.{Mnemonic}
 use Rattle.amd64_table.specs.declared.mnemonic.Mnemonic.TheVariants as name
 use Rattle.amd64_table.specs.declared.instr.Instr.{Instr}
+use Rattle.amd64_table.specs.declared.instr.Instr.TheVariants as instr
 use Rattle.amd64_table.specs.Registers.{number_of, xmm_number}
-use Rattle.amd64_table.specs.Operands.{factor_of}
+use Rattle.amd64_table.specs.Operands.{factor_of, rm_atom}
 use Rattle.amd64_table.specs.Effects.{effect_at}
-use Rattle.amd64_table.specs.Mnemonics.{mnemonic_of}
+use Rattle.amd64_table.specs.Mnemonics.{mnemonic_of, width_of}
 use Rattle.amd64_table.specs.Texts.{operands_of}
 
 -- when a condition holds, by the flags (Intel 64 manual, volume 1, "EFLAGS condition codes")
@@ -121,3 +125,20 @@ abbrev pub MeansItsText : Instr → Type 0
 MeansItsText i =
     (end past : ℕ) (before after : State) → IsState before → (applies : Applies (effect_at i end) past before after)
     → Tells before after end (resolved before applies.loaded (effect_at i end).next) (mnemonic_of i) (operands_of i)
+
+-- what a write of 32 bits leaves in a register is below 2^32. But CMPXCHGL leaves AX where its lower half equals what was loaded, and
+-- BSFL and BSRL of 0 leave any number
+abbrev pub EndsLow : State → ℕ → Instr → ℕ → Type 0
+EndsLow state loaded (instr.Atomic atomic.CompareExchange lock width reg mem) x = (equal 32 (reg_of state 0) loaded ≡ true) ⊎ (x < 2 ^ 32)
+EndsLow state loaded (instr.RmReg rm_reg.Bsf width from to) x = ((atom_of state loaded (rm_atom from) % 2 ^ 32 == 0) ≡ true) ⊎ (x < 2 ^ 32)
+EndsLow state loaded (instr.RmReg rm_reg.Bsr width from to) x = ((atom_of state loaded (rm_atom from) % 2 ^ 32 == 0) ≡ true) ⊎ (x < 2 ^ 32)
+EndsLow state loaded i x = x < 2 ^ 32
+
+abbrev pub EndsWrite : State → ℕ → Instr → ℕ × Value → Type 0
+EndsWrite state loaded i write = (x : ℕ) → Gives state loaded write.1 x → EndsLow state loaded i x
+
+-- so does each write of an instruction whose name tells 32 bits, where a number of four bytes was loaded
+abbrev pub ClearsUpper : Instr → Type 0
+ClearsUpper i =
+    (end loaded : ℕ) (state : State) → loaded < 2 ^ 32 → width_of (mnemonic_of i) ≡ Some L
+    → All (EndsWrite state loaded i) (effect_at i end).writes.items

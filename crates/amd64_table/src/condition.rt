@@ -49,24 +49,7 @@ impl Cc {
         ensures number { result ≡ cc_number self }
         ensures below { result < 16 }
     {
-        match self {
-            Cc::Over => 0,
-            Cc::NotOver => 1,
-            Cc::Carry => 2,
-            Cc::NotCarry => 3,
-            Cc::Zero => 4,
-            Cc::NotZero => 5,
-            Cc::CarryOrZero => 6,
-            Cc::NeitherCarryNorZero => 7,
-            Cc::Negative => 8,
-            Cc::NotNegative => 9,
-            Cc::ParityEven => 10,
-            Cc::ParityOdd => 11,
-            Cc::Less => 12,
-            Cc::GreaterOrEqual => 13,
-            Cc::LessOrEqual => 14,
-            Cc::Greater => 15,
-        }
+        self as u8
     }
 
     /// The condition of this number.

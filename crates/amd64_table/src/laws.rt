@@ -11,7 +11,7 @@ ghost use Rattle.amd64_table.specs.FlagTable.{manual_flags};
 ghost use Rattle.amd64_table.specs.Flows.{next_of};
 ghost use Rattle.amd64_table.specs.Mnemonics.{mnemonic_of};
 ghost use Rattle.amd64_table.specs.Runs.{runs};
-ghost use Rattle.amd64_table.specs.StepLaws.{MeansItsText};
+ghost use Rattle.amd64_table.specs.StepLaws.{MeansItsText, ClearsUpper};
 
 // The effects allow what an Intel processor made of registers, memory and flags.
 fn allows_runs()
@@ -34,4 +34,9 @@ fn flags()
 // Each step of a move, a branch or what leaves the program is as its text tells.
 fn means_its_text()
     ensures { (i : Instr) → MeansItsText i }
+{}
+
+// Each write of 32 bits clears the upper half of its register.
+fn clears_upper()
+    ensures { (i : Instr) → ClearsUpper i }
 {}

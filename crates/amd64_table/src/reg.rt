@@ -32,24 +32,7 @@ impl Reg {
         ensures number { result ≡ number_of self }
         ensures below { result < 16 }
     {
-        match self {
-            Reg::Ax => 0,
-            Reg::Cx => 1,
-            Reg::Dx => 2,
-            Reg::Bx => 3,
-            Reg::Sp => 4,
-            Reg::Bp => 5,
-            Reg::Si => 6,
-            Reg::Di => 7,
-            Reg::R8 => 8,
-            Reg::R9 => 9,
-            Reg::R10 => 10,
-            Reg::R11 => 11,
-            Reg::R12 => 12,
-            Reg::R13 => 13,
-            Reg::R14 => 14,
-            Reg::R15 => 15,
-        }
+        self as u8
     }
 
     /// The register of this number.

@@ -31,24 +31,7 @@ impl Xmm {
         ensures number { result ≡ xmm_number self }
         ensures below { result < 16 }
     {
-        match self {
-            Xmm::X0 => 0,
-            Xmm::X1 => 1,
-            Xmm::X2 => 2,
-            Xmm::X3 => 3,
-            Xmm::X4 => 4,
-            Xmm::X5 => 5,
-            Xmm::X6 => 6,
-            Xmm::X7 => 7,
-            Xmm::X8 => 8,
-            Xmm::X9 => 9,
-            Xmm::X10 => 10,
-            Xmm::X11 => 11,
-            Xmm::X12 => 12,
-            Xmm::X13 => 13,
-            Xmm::X14 => 14,
-            Xmm::X15 => 15,
-        }
+        self as u8
     }
 
     /// The register of this number.
