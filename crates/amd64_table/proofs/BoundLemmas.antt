@@ -122,7 +122,7 @@ made : (op : Op) (a b : Atom) (width : ℕ) → IsBoundedOp op → IsBoundedAtom
 made op a b width o p q w = record { op = o; a = p; b = q; c = lit< tt; width = w }
 
 pair : (a b : Atom) (width : ℕ) → IsBoundedAtom a → IsBoundedAtom b → IsWidth width → IsBoundedPair a b width
-pair a b width p q w = record { first = p; second = q; width = w }
+pair a b width p q w = record { first = p; second = q; bits = w }
 
 -- what is written
 IsWrite : ℕ × Value → Type 0
