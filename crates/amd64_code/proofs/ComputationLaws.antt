@@ -26,7 +26,7 @@ use Rattle.amd64_table.specs.declared.op.ShiftOp.TheVariants as shift
 use Rattle.amd64_table.specs.declared.op.Atomic.{Atomic}
 use Rattle.amd64_table.specs.declared.op.Atomic.TheVariants as atomic
 use Rattle.amd64_table.specs.declared.instr.Instr.TheVariants as instr
-use Rattle.amd64_table.specs.Registers.{low_bits, low_bits_xmm}
+use Rattle.amd64_table.specs.Registers.{number_of, low_bits_xmm}
 use Rattle.amd64_table.specs.Conditions.{cc_number}
 use Rattle.amd64_table.specs.Operands.{is_quad}
 use Rattle.amd64_table.specs.Fits.{fits_mem, fits_rm}

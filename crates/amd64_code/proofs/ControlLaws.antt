@@ -1,7 +1,7 @@
 -- Instructions of the stack, branches and those without operands are read back from their spelling, whatever follows. Where two
 -- clauses have one proof, the second one is checked for each other operation, register or condition.
 use Rattle.std.specs.Prelude.{Option, Some}
-use Rattle.std.proofs.Common.{◌≡◌, ℕ, ℤ, true, List, ◌++◌, refl, ap, ◌∙◌, arith}
+use Rattle.std.proofs.Common.{◌≡◌, ℕ, ℤ, true, false, List, ◌++◌, refl, ap, ◌∙◌, arith}
 use Rattle.machine_effect.specs.Numbers.{fits as fits_bits}
 use Rattle.amd64_table.specs.declared.reg.Reg.{Reg}
 use Rattle.amd64_table.specs.declared.reg.Reg.TheVariants.{Ax}
@@ -35,6 +35,7 @@ pub stack_back : (op : Stack) (reg : Reg) (rest : List ℕ)
     → reading (spelling_of (instr.Stack op reg) ++ rest) ≡ instr.Stack op reg
 unfolding spelling_of stack_opcode number_of reg_at one_byte stack_row
 stack_back stack.Push Ax rest = head_read _ rest refl
+stack_back stack.Pop Ax rest = head_read _ rest refl
 stack_back op reg rest = head_read _ rest refl
 
 pub short_back : (code : Option Cc) (distance : ℤ) (rest : List ℕ) → fits_bits 8 distance ≡ true
