@@ -2,14 +2,7 @@ use Rattle.std.proofs.Common.{◌≡◌, ℕ, ◌+◌, ◌-◌, ◌≤◌, List,
 use Rattle.std.proofs.lemmas.List.{drop-drop}
 use Rattle.std.proofs.Math.Seq.{take-add}
 use Rattle.std.specs.Io.KnownBytes.{Appends}
-
-then_appends : (old mid new : Option (List ℕ)) (first second : List ℕ)
-    → Appends old mid first → Appends mid new second → Appends old new (first ++ second)
-then_appends None mid new first second one two = tt
-then_appends (Some before) None new first second one two = absurd one
-then_appends (Some before) (Some between) None first second one two = absurd two
-then_appends (Some before) (Some between) (Some after) first second one two =
-    two ∙ ap (λ b. b ++ second) one ∙ append_assoc before first second
+use Rattle.std.proofs.KnownBytes.{Appends-trans}
 
 seam : (bytes rest : List ℕ) (count : ℕ) → length rest ≤ length bytes → count ≤ length rest
     → length bytes - length (drop count rest) ≡ (length bytes - length rest) + count
@@ -34,4 +27,4 @@ wrote_behind old mid new bytes rest count short is piece one two =
     ≡ take (length bytes - length rest) bytes ++ take count rest
     = ap (λ n. take n bytes) at ∙ take-add (length bytes - length rest) count bytes
     ∙ ap (λ r. take (length bytes - length rest) bytes ++ take count r) (sym is) in
-    rw taken (then_appends old mid new (take (length bytes - length rest) bytes) (take count rest) one two)
+    rw taken (Appends-trans old mid new (take (length bytes - length rest) bytes) (take count rest) one two)

@@ -1,4 +1,5 @@
-ghost use Rattle.std.specs.Prelude.{◌+◌, ◌≤◌, None, IfOk, length, vec_len};
+ghost use Rattle.std.specs.Prelude.{◌≡◌, ◌⊎◌, ◌+◌, ◌<◌, ◌≤◌, List, ℕ, ◌++◌, None, Ok, IfOk, length, vec_len};
+ghost use Rattle.std.specs.Io.KnownBytes.{Consumes, IsAtEnd};
 
 use goasm_base::{Bytes, Memory, Shelf, ShelfNo};
 use std::alloc::Global;
@@ -13,12 +14,17 @@ const PIECE: usize = 65536;
 #[derive(Drop)]
 pub struct Disk<'a, R: Files> {
     rt: &'a R,
-    reads: u64,
-    faults: u64,
+    /// How many reads there were.
+    pub reads: u64,
+    /// How many reads failed.
+    pub faults: u64,
 }
 
 impl<'a, R: Files> Disk<'a, R> {
-    pub fn new(rt: &'a R) -> Self {
+    pub fn new(rt: &'a R) -> Self
+        ensures reads { result.reads ≡ 0 }
+        ensures faults { result.faults ≡ 0 }
+    {
         Disk {
             rt,
             reads: 0,
@@ -44,7 +50,7 @@ impl<'a, R: Files> Shelf for Disk<'a, R> {
     }
 }
 
-// The file's first bytes, up to one more than `most`. A name that isn't UTF-8 names no file.
+// The first bytes of the file of this name. A name that isn't UTF-8 names no file.
 fn read_file<R: Files>(rt: &R, alloc: Global, name: &[u8], most: usize) -> Result<Bytes, ShelfNo>
     ensures { IfOk result (λ bytes. length bytes ≤ most + 1) }
 {
@@ -54,20 +60,44 @@ fn read_file<R: Files>(rt: &R, alloc: Global, name: &[u8], most: usize) -> Resul
     let Ok(mut file) = fs::open(rt, path) else {
         return Err(ShelfNo::Failed);
     };
+    read_first(&mut file, alloc, most)
+}
+
+/// What a reader gives, up to one byte more than `most`, or up to its end where that comes before.
+#[tactic(auto, using(crate::proofs::DiskLemmas::read_on))]
+pub fn read_first<R: Read>(reader: &mut R, alloc: Global, most: usize) -> Result<Bytes, ShelfNo>
+    ensures short { IfOk result (λ bytes. length bytes ≤ most + 1) }
+    ensures given { IfOk result (λ bytes. Consumes (R.remaining reader.old) (R.remaining reader.new) bytes) }
+    ensures whole { IfOk result (λ bytes. (length bytes ≡ most + 1) ⊎ IsAtEnd (R.remaining reader.new)) }
+{
     let mut bytes = Vec::new(alloc);
-    let mut buffer = [0u8; PIECE];
-    for _ in 0..u64::MAX {
-        if bytes.len() > most {
-            break;
-        }
+    while bytes.len() <= most {
         let want = (most - bytes.len()).min(PIECE - 1) + 1;
-        match file.read(&mut buffer[..want]) {
-            Ok(0) => break,
-            Ok(count) => bytes
-                .extend_from_slice(&buffer[..count])
-                .map_err(Memory::from)?,
-            Err(_) => return Err(ShelfNo::Failed),
+        if read_piece(reader, &mut bytes, want)? == 0 {
+            return Ok(Bytes::new(bytes));
         }
     }
     Ok(Bytes::new(bytes))
+}
+
+// Appends what one read gives, up to this many bytes, and answers how many. There are none only at the reader's end.
+fn read_piece<R: Read>(reader: &mut R, bytes: &mut Vec<u8>, want: usize) -> Result<usize, ShelfNo>
+    requires some { 0 < want }
+    requires few { want ≤ 65536 }
+    ensures given { IfOk result (λ count. (piece : List ℕ) × (bytes.new.items ≡ bytes.old.items ++ piece)
+        × (length piece ≡ count) × Consumes (R.remaining reader.old) (R.remaining reader.new) piece) }
+    ensures few { IfOk result (λ count. count ≤ want) }
+    ensures end { result ≡ Ok 0 → IsAtEnd (R.remaining reader.new) }
+{
+    let mut buffer = [0u8; PIECE];
+    let piece = &mut buffer[..want];
+    match reader.read(piece) {
+        Ok(count) => {
+            bytes
+                .extend_from_slice(&piece[..count])
+                .map_err(Memory::from)?;
+            Ok(count)
+        }
+        Err(_) => Err(ShelfNo::Failed),
+    }
 }

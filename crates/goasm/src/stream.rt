@@ -9,12 +9,16 @@ use std::io::Write;
 /// An output stream. What it took isn't told.
 #[derive(Drop)]
 pub struct Stream<W: Write + Drop> {
-    writer: W,
-    faults: u64,
+    pub writer: W,
+    /// How many writes failed.
+    pub faults: u64,
 }
 
 impl<W: Write + Drop> Stream<W> {
-    pub fn new(writer: W) -> Self {
+    pub fn new(writer: W) -> Self
+        ensures writer { result.writer ≡ writer }
+        ensures faults { result.faults ≡ 0 }
+    {
         Stream { writer, faults: 0 }
     }
 }
@@ -24,7 +28,16 @@ impl<W: Write + Drop> Sink for Stream<W> {
 
     ghost faults = { λ s. s.faults };
 
-    fn write(&mut self, bytes: &[u8]) -> Result<(), Failed> {
+    /// Where the writer tells what it holds, it was given all of the bytes, or a prefix of them where the write failed.
+    fn write(&mut self, bytes: &[u8]) -> Result<(), Failed>
+        ensures ok { OnOk result (None ≡ with_more None bytes.now) }
+        ensures err { OnErr result (TookPrefix None None bytes.now) }
+        ensures faults { self.old.faults ≤ self.new.faults }
+        ensures failed { OnErr result (Rose self.old.faults self.new.faults) }
+
+        ensures all { OnOk result (Appends (W.contents self.old.writer) (W.contents self.new.writer) bytes.now) }
+        ensures part { (count : ℕ) × Appends (W.contents self.old.writer) (W.contents self.new.writer) (take count bytes.now) }
+    {
         if write_all(&mut self.writer, bytes) {
             return Ok(());
         }
