@@ -29,6 +29,3 @@ pub use mem::Mem;
 pub use next::Next;
 pub use op::{Division, Logic, Op, Shift, Signs, Word};
 pub use state::{Flags, State};
-
-#[cfg(test)]
-mod tests;

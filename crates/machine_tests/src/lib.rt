@@ -5,4 +5,6 @@
 #[cfg(test)]
 mod disassembly;
 #[cfg(test)]
+mod effects;
+#[cfg(test)]
 mod target;
