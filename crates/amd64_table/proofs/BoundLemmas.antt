@@ -1,8 +1,7 @@
-use Rattle.std.proofs.Common.{◌≡◌, ℕ, ℤ, pos, negsuc, ◌+◌, ◌-◌, ◌%◌, ◌^◌, ◌<◌, ◌≤◌, nat_lt, true, [], ◌∷◌, List, Option, Some, None, All, IfSome, refl, inl, arith, lit<, lit≤, rules, IsTrue}
+use Rattle.std.proofs.Common.{◌≡◌, ℕ, ℤ, pos, negsuc, ◌+◌, ◌^◌, ◌<◌, ◌≤◌, nat_lt, true, [], ◌∷◌, List, Option, Some, None, All, IfSome, refl, inl, arith, lit<, lit≤, rules, IsTrue}
 use Rattle.std.proofs.lemmas.Bool.{and_parts, ltb-true}
 use Rattle.std.proofs.lemmas.List.Elements.{All-nil, All-cons}
 use Rattle.std.proofs.lemmas.Nat.{mod_below, pow_pos}
-use Rattle.machine_effect.specs.declared.effect.Effect.{Effect}
 use Rattle.machine_effect.specs.declared.effect.Access.{Access}
 use Rattle.machine_effect.specs.declared.effect.Value.{Value}
 use Rattle.machine_effect.specs.declared.effect.Atom.{Atom}
@@ -13,11 +12,10 @@ use Rattle.machine_effect.specs.declared.op.Op.{Op}
 use Rattle.machine_effect.specs.declared.op.Op.TheVariants.{Copy, Add, Subtract}
 use Rattle.machine_effect.specs.declared.next.Next.{Next}
 use Rattle.machine_effect.specs.Numbers.{unsigned, moved_by}
-use Rattle.machine_effect.specs.Bounds.{IsRegister, IsWideRegister, IsScale, IsWidth, IsBoundedAtom, IsAddressAtom, IsBoundedAccess, IsBoundedPair, IsBoundedOp, IsBoundedValue, IsBoundedCond, IsBoundedRule, IsBoundedNext, IsBounded}
+use Rattle.machine_effect.specs.Bounds.{IsRegister, IsScale, IsWidth, IsBoundedAtom, IsBoundedAccess, IsBoundedPair, IsBoundedOp, IsBoundedValue, IsBoundedCond, IsBoundedRule, IsBoundedNext, IsBounded}
 use Rattle.amd64_table.specs.declared.condition.Cc.{Cc}
 use Rattle.amd64_table.specs.declared.reg.Reg.{Reg}
 use Rattle.amd64_table.specs.declared.reg.Reg.TheVariants.{Ax, Cx, Dx, Bx, Sp}
-use Rattle.amd64_table.specs.declared.xmm.Xmm.{Xmm}
 use Rattle.amd64_table.specs.declared.width.Width.{Width}
 use Rattle.amd64_table.specs.declared.width.Width.TheVariants.{Q, L}
 use Rattle.amd64_table.specs.declared.memory.Scale.{Scale}
@@ -49,7 +47,7 @@ use Rattle.amd64_table.specs.Fits.{fits, fits_rm}
 use Rattle.amd64_table.specs.Operands.{bits_of, bytes_of, factor_of, reg_atom, signed_atom, access_of, rm_atom, load_of, writes_of, store_of}
 use Rattle.amd64_table.specs.Forms.{value_of, copy_of, computing, going, changing, setting, testing, reading, loading, storing, swapping}
 use Rattle.amd64_table.specs.Moves.{reg_rm_effect, mem_reg_effect, store_low_effect, extend_bytes, extended, extend_effect, store_const_effect, place_of, move_cc_effect, load_wide_effect, store_wide_effect, load_tls_effect}
-use Rattle.amd64_table.specs.Computation.{result_of, flags_of, arithmetic_effect, compare_const_effect, unary_value, unary_flags, unary_effect, ax_value, dx_value, mul_div_flags, mul_div_effect, rm_reg_value, rm_reg_flags, rm_reg_effect, shift_of, shift_flags, shift_effect, exchange_effect, is_ax, atomic_effect, set_cc_effect, swap_bytes_effect, xor_wide_effect}
+use Rattle.amd64_table.specs.Computation.{result_of, flags_of, arithmetic_effect, compare_const_effect, unary_value, unary_flags, unary_effect, ax_value, dx_value, mul_div_flags, mul_div_effect, rm_reg_value, rm_reg_flags, rm_reg_effect, shift_flags, shift_effect, exchange_effect, is_ax, atomic_effect, set_cc_effect, swap_bytes_effect, xor_wide_effect}
 use Rattle.amd64_table.specs.Control.{stack_access, any, stack_effect, short_effect, near_effect, indirect_effect, plain_effect}
 use Rattle.amd64_table.specs.Effects.{effect_at}
 use Rattle.amd64_table.proofs.RegisterLemmas.{number_below, xmm_below}

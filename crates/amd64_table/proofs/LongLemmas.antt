@@ -1,8 +1,8 @@
-use Rattle.std.proofs.Common.{◌≡◌, ◌⊎◌, ℕ, zero, suc, ℤ, pos, negsuc, ◌+◌, ◌-◌, ◌*◌, ◌/◌, ◌%◌, ◌^◌, ◌<◌, ◌≤◌, ◌==◌, Bool, true, false, ◌&&◌, nat_lt, [], ◌∷◌, All, Option, Some, None, bit_and, bit_or, bit_xor, refl, sym, ap, ◌∙◌, inl, inr, arith, add-zero, lit<, if◌then◌else◌}
+use Rattle.std.proofs.Common.{◌≡◌, ◌⊎◌, ℕ, zero, suc, ℤ, pos, negsuc, ◌+◌, ◌-◌, ◌*◌, ◌/◌, ◌%◌, ◌^◌, ◌<◌, ◌≤◌, ◌==◌, Bool, true, false, [], ◌∷◌, All, Option, Some, None, refl, sym, ap, ◌∙◌, inl, inr, arith, add-zero, lit<, if◌then◌else◌}
 use Rattle.std.proofs.lemmas.Bool.{and_parts, ltb-true, false≢true}
 use Rattle.std.proofs.lemmas.List.Elements.{All-nil, All-cons}
 use Rattle.std.proofs.lemmas.Nat.{mod_below, pow_pos, pow-add, shl-shr, shr_below, shr_le, mod-pow-add, mod-mul-add, mul-add-lt, mul-lt, div_below, and_le_l, or_of_32, xor_of_32, trailing_le}
-use lib.Count.{ones_in, count_leading_zeros, count_trailing_zeros}
+use lib.Count.{ones_in}
 use Rattle.machine_effect.specs.declared.state.State.{State}
 use Rattle.machine_effect.specs.declared.effect.Value.{Value}
 use Rattle.machine_effect.specs.declared.effect.Atom.{Atom}
@@ -14,7 +14,7 @@ use Rattle.machine_effect.specs.Operations.{Outcome, IsOutcome, exactly_if, doub
 use Rattle.machine_effect.specs.Values.{atom_of, holds_by, holds, equal, reg_of, Gives}
 use Rattle.amd64_table.specs.declared.reg.Reg.TheVariants.{Ax, Dx}
 use Rattle.amd64_table.specs.declared.width.Width.{Width}
-use Rattle.amd64_table.specs.declared.width.Width.TheVariants.{Q, L}
+use Rattle.amd64_table.specs.declared.width.Width.TheVariants.{L}
 use Rattle.amd64_table.specs.declared.memory.Rm.{Rm}
 use Rattle.amd64_table.specs.declared.memory.Rm.TheVariants as rms
 use Rattle.amd64_table.specs.declared.op.Arithmetic.{Arithmetic}
@@ -41,7 +41,7 @@ use Rattle.amd64_table.specs.Moves.{reg_rm_effect, mem_reg_effect, store_const_e
 use Rattle.amd64_table.specs.Computation.{result_of, arithmetic_effect, compare_const_effect, unary_value, unary_effect, ax_value, dx_value, mul_div_effect, rm_reg_value, rm_reg_effect, shift_of, shift_effect, exchange_effect, atomic_effect, swap_bytes_effect}
 use Rattle.amd64_table.specs.Effects.{effect_at}
 use Rattle.amd64_table.specs.Mnemonics.{mnemonic_of, width_of}
-use Rattle.amd64_table.specs.StepLaws.{EndsLow, EndsWrite, ClearsUpper}
+use Rattle.amd64_table.specs.StepLaws.{EndsWrite, ClearsUpper}
 
 -- a number modulo 2^32
 cut : (y : ℕ) → y % 2 ^ 32 < 2 ^ 32

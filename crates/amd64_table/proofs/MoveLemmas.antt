@@ -1,4 +1,4 @@
-use Rattle.std.proofs.Common.{◌≡◌, ℕ, zero, suc, ℤ, pos, negsuc, ◌-◌, ◌*◌, ◌%◌, ◌^◌, ◌<◌, ◌≤◌, ◌==◌, Bool, true, false, ◌&&◌, [], ◌∷◌, Option, Some, None, refl, ap, ◌∙◌, arith, rules, if◌then◌else◌, ◌-ℤ◌, ◌≤ℤ◌}
+use Rattle.std.proofs.Common.{◌≡◌, ℕ, zero, suc, ℤ, pos, negsuc, ◌-◌, ◌*◌, ◌%◌, ◌^◌, ◌<◌, ◌≤◌, ◌==◌, Bool, true, false, ◌&&◌, [], ◌∷◌, Option, Some, None, refl, ap, ◌∙◌, arith, rules, if◌then◌else◌, ◌-ℤ◌}
 use Rattle.std.proofs.lemmas.Bool.{and_parts, ltb-true, lt-ltb, le-ltb}
 use Rattle.std.proofs.lemmas.Int.{ints}
 use Rattle.machine_effect.specs.declared.effect.Effect.{Effect}
@@ -18,7 +18,7 @@ use Rattle.amd64_table.specs.declared.condition.Cc.{Cc}
 use Rattle.amd64_table.specs.declared.reg.Reg.{Reg}
 use Rattle.amd64_table.specs.declared.reg.Reg.TheVariants.{Sp, Cx}
 use Rattle.amd64_table.specs.declared.width.Width.{Width}
-use Rattle.amd64_table.specs.declared.width.Width.TheVariants.{Q, L}
+use Rattle.amd64_table.specs.declared.width.Width.TheVariants.{Q}
 use Rattle.amd64_table.specs.declared.memory.Mem.{Mem}
 use Rattle.amd64_table.specs.declared.memory.Rm.{Rm}
 use Rattle.amd64_table.specs.declared.memory.Rm.TheVariants as operand
@@ -31,7 +31,6 @@ use Rattle.amd64_table.specs.declared.op.MemReg.TheVariants as mem_reg
 use Rattle.amd64_table.specs.declared.op.StoreSize.{StoreSize}
 use Rattle.amd64_table.specs.declared.op.StoreSize.TheVariants as size
 use Rattle.amd64_table.specs.declared.op.Extend.{Extend}
-use Rattle.amd64_table.specs.declared.op.Extend.TheVariants as extend
 use Rattle.amd64_table.specs.declared.op.Unary.{Unary}
 use Rattle.amd64_table.specs.declared.op.Unary.TheVariants as unary
 use Rattle.amd64_table.specs.declared.op.MulDiv.{MulDiv}
@@ -43,11 +42,8 @@ use Rattle.amd64_table.specs.declared.op.Stack.TheVariants as stack
 use Rattle.amd64_table.specs.declared.op.Atomic.{Atomic}
 use Rattle.amd64_table.specs.declared.op.Atomic.TheVariants as atomic
 use Rattle.amd64_table.specs.declared.op.Near.{Near}
-use Rattle.amd64_table.specs.declared.op.Near.TheVariants as near
 use Rattle.amd64_table.specs.declared.op.Indirect.{Indirect}
-use Rattle.amd64_table.specs.declared.op.Indirect.TheVariants as indirect
 use Rattle.amd64_table.specs.declared.op.Plain.{Plain}
-use Rattle.amd64_table.specs.declared.op.Plain.TheVariants as plain
 use Rattle.amd64_table.specs.declared.instr.Instr.{Instr}
 use Rattle.amd64_table.specs.declared.instr.Instr.TheVariants as instr
 use Rattle.amd64_table.specs.Registers.{number_of}

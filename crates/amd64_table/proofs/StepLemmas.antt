@@ -1,4 +1,4 @@
-use Rattle.std.proofs.Common.{◌≡◌, ℕ, ℤ, pos, negsuc, ◌+◌, ◌-◌, ◌*◌, ◌%◌, ◌^◌, ◌<◌, ◌≤◌, Bool, true, false, [], ◌∷◌, length, get_or, set, Option, Some, None, refl, sym, ap, ◌∙◌, arith, add-zero, lit≤, lit<, if◌then◌else◌, get_or-set_same}
+use Rattle.std.proofs.Common.{◌≡◌, ℕ, ℤ, pos, negsuc, ◌+◌, ◌*◌, ◌%◌, ◌^◌, ◌<◌, ◌≤◌, [], ◌∷◌, length, set, Option, Some, None, refl, sym, ap, ◌∙◌, arith, add-zero, lit≤, if◌then◌else◌, get_or-set_same}
 use Rattle.std.proofs.lemmas.Nat.{mod_below, pow_pos}
 use Rattle.std.proofs.Math.Nat.{mod-eq_of_lt}
 use Rattle.std.proofs.Math.Pow.{pow_mono}
@@ -40,14 +40,14 @@ use Rattle.amd64_table.specs.declared.instr.Instr.TheVariants as instr
 use Rattle.amd64_table.specs.Registers.{number_of, xmm_number}
 use Rattle.amd64_table.specs.Conditions.{cond_of}
 use Rattle.amd64_table.specs.Operands.{bits_of, bytes_of as width_bytes, reg_atom, signed_atom, access_of, rm_atom, load_of, writes_of, store_of}
-use Rattle.amd64_table.specs.Forms.{copy_of, value_of, computing, going, setting, reading, loading, storing}
+use Rattle.amd64_table.specs.Forms.{copy_of, value_of, computing, setting, reading, loading, storing}
 use Rattle.amd64_table.specs.Moves.{reg_rm_effect, mem_reg_effect, store_low_effect, extend_bytes, extended, extend_effect, store_const_effect, load_wide_effect, store_wide_effect, load_tls_effect}
 use Rattle.amd64_table.specs.Control.{short_effect, near_effect, indirect_effect, plain_effect}
 use Rattle.amd64_table.specs.Effects.{effect_at}
 use Rattle.amd64_table.specs.Flows.{next_of}
 use Rattle.amd64_table.specs.Mnemonics.{mnemonic_of}
 use Rattle.amd64_table.specs.Texts.{rm_operand, reg_rm_operands, mem_reg_operands, operands_of}
-use Rattle.amd64_table.specs.StepLaws.{is_met, address_in, number_in, Receives, Becomes, Moves, extended_from, MeansItsText}
+use Rattle.amd64_table.specs.StepLaws.{is_met, address_in, number_in, Becomes, Moves, extended_from, MeansItsText}
 use Rattle.amd64_table.proofs.RegisterLemmas.{number_below, xmm_below}
 use Rattle.amd64_table.proofs.NextLemmas.{nexts}
 

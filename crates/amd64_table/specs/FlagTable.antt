@@ -2,7 +2,6 @@
 -- "EFLAGS cross-reference", and volume 2): `s` set by the result, `k` kept, `-` cleared, `?` undefined. Shifts and ROL with a count that
 -- isn't 0; where the manual tells carry and over of them by the bits that leave, any value is taken here.
 use Rattle.std.specs.Prelude.{ℕ, List, codes}
-use Rattle.amd64_table.specs.declared.width.Width.{Width}
 use Rattle.amd64_table.specs.declared.op.Arithmetic.TheVariants as arithmetic
 use Rattle.amd64_table.specs.declared.op.Unary.TheVariants as unary
 use Rattle.amd64_table.specs.declared.op.MulDiv.TheVariants as mul_div

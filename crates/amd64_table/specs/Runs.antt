@@ -1,7 +1,7 @@
 -- Instructions run on an Intel processor: what stood before and after each. What no process can run, SYSCALL and UNDEF, is told by the
 -- words of the Intel 64 manual, volume 2. The flags that are free are those of the manual, and after a shift or a rotation also
 -- carry, which the manual tells further.
-use Rattle.std.specs.Prelude.{ℕ, pos, negsuc, Bool, true, false, List, [], ◌∷◌, Some, None, codes}
+use Rattle.std.specs.Prelude.{ℕ, pos, negsuc, true, false, List, [], ◌∷◌, Some, None, codes}
 use Prim.Native.String.{String}
 use Rattle.machine_effect.specs.declared.next.Next.TheVariants as next
 use Rattle.machine_effect.specs.Witness.{Seen, Run}
