@@ -1,6 +1,6 @@
 -- The head of a spelling is read back, whatever follows.
 use Rattle.std.specs.Prelude.{◌==◌, not, slice_index, if◌then◌else◌}
-use Rattle.std.proofs.Common.{◌≡◌, ℕ, Bool, true, false, List, [], ◌∷◌, ◌++◌, ◌/◌, ◌%◌, ◌<◌, ◌≤◌, ◌||◌, refl, sym, ap, ◌∙◌, arith}
+use Rattle.std.proofs.Common.{◌≡◌, ℕ, Bool, true, false, List, [], ◌∷◌, ◌++◌, ◌/◌, ◌%◌, ◌≤◌, ◌||◌, refl, sym, ap, ◌∙◌, arith}
 use Rattle.std.proofs.lemmas.Bool.{ne_eqb, not-true, or_parts}
 use Rattle.std.proofs.lemmas.List.{append_assoc}
 use Rattle.amd64_table.specs.declared.instr.Instr.{Instr}
