@@ -1,5 +1,5 @@
 -- What is read and put out has the form of tokens and stands in one of these files: files and builds.
-use Rattle.std.proofs.Common.{◌≡◌, ℕ, zero, suc, ◌+◌, ◌≤◌, ◌&&◌, ◌||◌, ◌==◌, Bool, true, false, List, [], ◌∷◌, ◌++◌, length, All, Option, Some, None, is_some, is_none, Result, Ok, Err, inl, inr, refl, bytes_eq, arith, if◌then◌else◌, map, not, ◌-◌}
+use Rattle.std.proofs.Common.{◌≡◌, ℕ, zero, suc, ◌+◌, ◌≤◌, ◌&&◌, ◌||◌, ◌==◌, Bool, true, false, List, [], ◌∷◌, length, All, Option, Some, None, is_some, is_none, Result, Ok, inl, inr, refl, bytes_eq, arith, if◌then◌else◌, map, not}
 use Rattle.std.specs.List.{before_first, flat_map, onto_first}
 use Rattle.std.proofs.lemmas.Bool.{cases_Bool}
 use Rattle.std.proofs.lemmas.List.Elements.{All-nil, All-cons, All-head, All-tail, All-append, All-map, All-take, All-weaker, All-from_recursion}
@@ -11,7 +11,6 @@ use Rattle.asm_lex.specs.declared.token.Token.{Token}
 use Rattle.asm_lex.specs.declared.token.Tokens.{Tokens}
 use Rattle.asm_lex.specs.Form.{EndsWithEnd, AreTokens}
 use Rattle.asm_lex.specs.Numbers.{number_value}
-use Rattle.asm_macro.specs.declared.placed.Placed.{Placed}
 use Rattle.asm_macro.specs.declared.mapping.Mapping.{Mapping}
 use Rattle.asm_macro.specs.declared.condition.Condition.{Condition}
 use Rattle.asm_macro.specs.declared.refusal.MacroNo.{MacroNo}
@@ -26,7 +25,7 @@ use Rattle.asm_macro.specs.Tokens.{is_word, is_end, is_newline, is_sign, opening
 use Rattle.asm_macro.specs.Definitions.{Definition, Definitions}
 use Rattle.asm_macro.specs.Refusals.{◌>>=◌}
 use Rattle.asm_macro.specs.Places.{StandIn, RefusedIn}
-use Rattle.asm_macro.specs.Uses.{Work, placed_at, expand_statement}
+use Rattle.asm_macro.specs.Uses.{placed_at, expand_statement}
 use Rattle.asm_macro.specs.Statements.{Statement, split_inclusive, begins_with_hash, directive, plain, statements_on, statements_of}
 use Rattle.asm_macro.specs.Directives.{keyword_of, Head, head_from, head_in, Named, LineMark, with_head, definition_behind, definition_in, name_in, quoted_in, mark_in}
 use Rattle.asm_macro.specs.Conditions.{is_taken, judged, skipped, conditions_after_else, conditions_after_endif}
@@ -35,7 +34,7 @@ use Rattle.asm_macro.specs.BuiltIn.{built_in_named, textflag, funcdata, rows_of,
 use Rattle.asm_macro.specs.Files.{Context, State, Place, Step, Inclusion, Inner, top, step_at, with_conditions, with_definitions, define, undefine, count_use, include_built_in, include_named, include, open_condition, balanced_place, mapped_place, mark, is_empty, execute, skip, read_directive, rest_of, placed_in, read_plain, end_line, read_statement, end_file, read_entered, read_statements, read_file}
 use Rattle.asm_macro.specs.Builds.{token_count, included, value_definition, first_pos, defined, started, expand_sources, context_for, expansion}
 use Rattle.asm_macro.proofs.RefusalLemmas.{Holds, holds_then, holds_either}
-use Rattle.asm_macro.proofs.FormLemmas.{IsFormed, Formed, IsSound, Sound, SoundPlaced, LastEnd, Ready, FormedDefinitions, Within, GoodWork, WorkOrRefusal, placed_sound, end_is, is_end_from, ready_goes, run_sound}
+use Rattle.asm_macro.proofs.FormLemmas.{IsFormed, Formed, IsSound, Sound, LastEnd, Ready, FormedDefinitions, GoodWork, placed_sound, end_is, is_end_from, ready_goes, run_sound}
 
 formed_of : (P : ℕ → Type 0) (tokens : List Token) → Sound P tokens → Formed tokens
 formed_of P tokens sound = All-weaker (IsSound P) IsFormed (λ token sound. sound.form) tokens sound

@@ -11,7 +11,7 @@ use Rattle.asm_lex.specs.declared.token.Tokens.{Tokens}
 use Rattle.asm_macro.specs.declared.keyword.Keyword.{Keyword}
 use Rattle.asm_macro.specs.declared.keyword.Keyword.TheVariants as keywords
 use Rattle.asm_macro.specs.Tokens.{is_newline}
-use Rattle.asm_macro.specs.Statements.{Statement, split_inclusive, begins_with_hash, plain, statements_on, statements_of}
+use Rattle.asm_macro.specs.Statements.{split_inclusive, begins_with_hash, plain, statements_on, statements_of}
 use Rattle.asm_macro.specs.Directives.{keyword, mark_in}
 use Rattle.asm_macro.specs.LineNames.{name_of, name_said, name_in_words, name_by, names_by, names_in, is_among, with_name, distinct_behind}
 use Rattle.asm_macro.specs.Builds.{token_count, included_tokens, line_names_of}

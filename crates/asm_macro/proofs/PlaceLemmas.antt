@@ -1,5 +1,5 @@
 -- The files in which the results of a build and its refusals stand.
-use Rattle.std.proofs.Common.{◌≡◌, ℕ, suc, ◌+◌, ◌<◌, ◌≤◌, max, List, [], ◌∷◌, ◌++◌, length, map, All, Option, Some, Result, Ok, Err, refl, bytes_eq, arith, ap, sym, ◌∙◌}
+use Rattle.std.proofs.Common.{◌≡◌, ℕ, suc, ◌+◌, ◌<◌, ◌≤◌, max, List, [], ◌∷◌, ◌++◌, length, map, All, Option, Some, Result, Ok, Err, bytes_eq, arith}
 use Rattle.std.proofs.lemmas.List.Elements.{All-nil, All-cons}
 use Rattle.asm_lex.specs.declared.token.Tokens.{Tokens}
 use Rattle.asm_lex.specs.Form.{AreTokens}
@@ -9,7 +9,7 @@ use Rattle.asm_macro.specs.declared.limits.Limits.{Limits}
 use Rattle.asm_macro.specs.Names.{Names, nothing, with_name}
 use Rattle.asm_macro.specs.Refusals.{Refuses}
 use Rattle.asm_macro.specs.Builds.{line_names_of, greatest, greatest_file, numbered, context_for, expansion}
-use Rattle.asm_macro.specs.Places.{file_count, AreInTheirFile, ArePlaced, StandIn, RefusedIn, IsBelow}
+use Rattle.asm_macro.specs.Places.{file_count, AreInTheirFile, ArePlaced, RefusedIn, IsBelow}
 use Rattle.asm_macro.proofs.RefusalLemmas.{holds_either}
 use Rattle.asm_macro.proofs.BuildLemmas.{greatest_append}
 use Rattle.asm_macro.proofs.FormFiles.{GoodNumbers, IsGoodFile, GoodResults, ResultsOrRefusal, expansion_good}

@@ -29,7 +29,7 @@ const DEFINES: [(&str, &str); 2] = [("D", "4 2"), ("E", "")];
 
 // A source and its tokens: before each that stands elsewhere than the one before it its file and line, and `NL` for a
 // newline; or the refusal with its place.
-const SOURCES: [(&str, &str); 83] = [
+const SOURCES: [(&str, &str); 84] = [
     ("", "1:1 NL"),
     ("RET;\n\n", "1:1 RET ; NL 1:2 NL 1:3 NL"),
     (
@@ -76,6 +76,10 @@ const SOURCES: [(&str, &str); 83] = [
     ),
     ("#line 7 \"y.s\"\nRET\nA", "7:7 RET NL 7:8 A NL"),
     ("#line 5000000000 \"y\"\nA\nB", "7:2147483646 A NL B NL"),
+    (
+        "#line 1 \"a\"\nX\n#line 1 \"b\"\nY\n#line 1 \"c\"\nZ",
+        "7:1 X NL 8:1 Y NL 9:1 Z NL",
+    ),
     ("#line 3 \"y\"\n#line 4 \"x\"\n#foo", "M5 8:4"),
     ("#ifdef A\n1\n#else\n2\n#endif\n3", "1:4 2 NL 1:6 3 NL"),
     ("#ifndef A\n1\n#else\n2\n#endif", "1:2 1 NL"),
