@@ -1,15 +1,12 @@
--- What is read and put out has the form of tokens and stands in one of these files: files and builds.
-use Rattle.std.proofs.Common.{◌≡◌, ℕ, zero, suc, ◌+◌, ◌≤◌, ◌&&◌, ◌||◌, ◌==◌, Bool, true, false, List, [], ◌∷◌, length, All, Option, Some, None, is_some, is_none, Result, Ok, inl, inr, refl, bytes_eq, arith, if◌then◌else◌, map, not}
-use Rattle.std.specs.List.{before_first, flat_map, onto_first}
+-- What is read and put out has the form of tokens and stands in one of these files: files.
+use Rattle.std.proofs.Common.{◌≡◌, ℕ, zero, suc, ◌+◌, ◌&&◌, ◌||◌, ◌==◌, Bool, true, false, List, [], ◌∷◌, All, Option, Some, None, is_some, is_none, Result, Ok, inl, inr, refl, bytes_eq, if◌then◌else◌, not}
+use Rattle.std.specs.List.{before_first}
 use Rattle.std.proofs.lemmas.Bool.{cases_Bool}
-use Rattle.std.proofs.lemmas.List.Elements.{All-nil, All-cons, All-head, All-tail, All-append, All-map, All-take, All-weaker, All-from_recursion}
-use Rattle.std.proofs.lemmas.List.Sums.{sum_by-cons}
+use Rattle.std.proofs.lemmas.List.Elements.{All-nil, All-cons, All-head, All-tail, All-map, All-take, All-from_recursion}
 use Rattle.goasm_base.specs.declared.pos.Pos.{Pos}
 use Rattle.goasm_base.specs.Numbers.{number_of}
 use Rattle.asm_lex.specs.declared.token.Kind.TheVariants as kinds
 use Rattle.asm_lex.specs.declared.token.Token.{Token}
-use Rattle.asm_lex.specs.declared.token.Tokens.{Tokens}
-use Rattle.asm_lex.specs.Form.{EndsWithEnd, AreTokens}
 use Rattle.asm_lex.specs.Numbers.{number_value}
 use Rattle.asm_macro.specs.declared.mapping.Mapping.{Mapping}
 use Rattle.asm_macro.specs.declared.condition.Condition.{Condition}
@@ -19,135 +16,21 @@ use Rattle.asm_macro.specs.declared.keyword.Keyword.TheVariants as keywords
 use Rattle.asm_macro.specs.declared.built_in.BuiltIn.{BuiltIn}
 use Rattle.asm_macro.specs.declared.built_in.BuiltIn.TheVariants.{Textflag, Funcdata}
 use Rattle.asm_macro.specs.declared.built_in.Row.{Row}
-use Rattle.asm_macro.specs.declared.limits.Limits.{Limits}
 use Rattle.asm_macro.specs.Names.{Names, nothing, with_name}
 use Rattle.asm_macro.specs.Tokens.{is_word, is_end, is_newline, is_sign, opening, closing, comma}
 use Rattle.asm_macro.specs.Definitions.{Definition, Definitions}
 use Rattle.asm_macro.specs.Refusals.{◌>>=◌}
-use Rattle.asm_macro.specs.Places.{StandIn, RefusedIn}
+use Rattle.asm_macro.specs.Places.{RefusedIn}
 use Rattle.asm_macro.specs.Uses.{placed_at, expand_statement}
-use Rattle.asm_macro.specs.Statements.{Statement, split_inclusive, begins_with_hash, directive, plain, statements_on, statements_of}
+use Rattle.asm_macro.specs.Statements.{Statement, statements_of}
 use Rattle.asm_macro.specs.Directives.{keyword_of, Head, head_from, head_in, Named, LineMark, with_head, definition_behind, definition_in, name_in, quoted_in, mark_in}
 use Rattle.asm_macro.specs.Conditions.{is_taken, judged, skipped, conditions_after_else, conditions_after_endif}
 use Rattle.asm_macro.specs.Positions.{moved, mapping_from}
 use Rattle.asm_macro.specs.BuiltIn.{built_in_named, textflag, funcdata, rows_of, is_defined_by, row_definition, with_rows}
 use Rattle.asm_macro.specs.Files.{Context, State, Place, Step, Inclusion, Inner, top, step_at, with_conditions, with_definitions, define, undefine, count_use, include_built_in, include_named, include, open_condition, balanced_place, mapped_place, mark, is_empty, execute, skip, read_directive, rest_of, placed_in, read_plain, end_line, read_statement, end_file, read_entered, read_statements, read_file}
-use Rattle.asm_macro.specs.Builds.{token_count, included, value_definition, first_pos, defined, started, expand_sources, context_for, expansion}
 use Rattle.asm_macro.proofs.RefusalLemmas.{Holds, holds_then, holds_either}
-use Rattle.asm_macro.proofs.FormLemmas.{IsFormed, Formed, IsSound, Sound, LastEnd, Ready, FormedDefinitions, GoodWork, placed_sound, end_is, is_end_from, ready_goes, run_sound}
-
-formed_of : (P : ℕ → Type 0) (tokens : List Token) → Sound P tokens → Formed tokens
-formed_of P tokens sound = All-weaker (IsSound P) IsFormed (λ token sound. sound.form) tokens sound
-
--- tokens that may be handed on
-pub record AreGood (P : ℕ → Type 0) (tokens : List Token) : Type 0 where
-  pub sound : Sound P tokens
-  pub ends : EndsWithEnd tokens
-
--- parts of lists
-
-onto_all : {A : Type 0} (Q : A → Type 0) (first : A) (lists : List (List A)) → Q first → All (All Q) lists → All (All Q) (onto_first first lists)
-onto_all Q first [] one all = All-cons (All Q) (first ∷ []) [] (All-cons Q first [] one (All-nil Q)) (All-nil (All Q))
-onto_all Q first (list ∷ lists) one all =
-    All-cons (All Q) (first ∷ list) lists (All-cons Q first list one (All-head (All Q) list lists all)) (All-tail (All Q) list lists all)
-
-split_all : {A : Type 0} (Q : A → Type 0) (ends : A → Bool) (list : List A) → All Q list → All (All Q) (split_inclusive ends list)
-unfolding split_inclusive
-split_all Q ends [] all = All-nil (All Q)
-split_all Q ends (first ∷ rest) all =
-    let one : Q first = All-head Q first rest all in
-    let others : All (All Q) (split_inclusive ends rest) = split_all Q ends rest (All-tail Q first rest all) in
-    holds_either (All (All Q)) (ends first) _ _
-    (All-cons (All Q) (first ∷ []) (split_inclusive ends rest) (All-cons Q first [] one (All-nil Q)) others)
-    (onto_all Q first (split_inclusive ends rest) one others)
-
--- there are tokens, and the last one is an end
-abbrev AreEnded : List Token → Type 0
-AreEnded [] = ⊥
-AreEnded (token ∷ []) = token.kind ≡ kinds.End
-AreEnded (token ∷ next ∷ tokens) = AreEnded (next ∷ tokens)
-
-ended_cons : (token : Token) (tokens : List Token) → AreEnded tokens → AreEnded (token ∷ tokens)
-ended_cons token [] ended = absurd ended
-ended_cons token (next ∷ tokens) ended = ended
-
-ended_of : (token : Token) (tokens : List Token) → EndsWithEnd (token ∷ tokens) → AreEnded (token ∷ tokens)
-ended_of token [] ends = ends
-ended_of token (next ∷ tokens) ends = ended_of next tokens ends
-
-onto_ended : (first : Token) (lists : List (List Token)) → (lists ≡ [] → first.kind ≡ kinds.End) → All AreEnded lists → All AreEnded (onto_first first lists)
-onto_ended first [] last all = All-cons AreEnded (first ∷ []) [] (last refl) (All-nil AreEnded)
-onto_ended first (list ∷ lists) last all =
-    All-cons AreEnded (first ∷ list) lists (ended_cons first list (All-head AreEnded list lists all)) (All-tail AreEnded list lists all)
-
-onto_some : {A : Type 0} (first : A) (lists : List (List A)) → onto_first first lists ≡ [] → ⊥
-onto_some first [] is = cc
-onto_some first (list ∷ lists) is = cc
-
-split_some : {A : Type 0} (ends : A → Bool) (first : A) (rest : List A) → split_inclusive ends (first ∷ rest) ≡ [] → ⊥
-unfolding split_inclusive
-split_some ends first rest =
-    elim (cases_Bool (ends first)) [
-      | inl is ↦ rw is (λ none. cc)
-      | inr goes ↦ rw goes (λ none. onto_some first (split_inclusive ends rest) none)
-    ]
-
--- where only ends end a part, each part of ended tokens is ended
-split_ended : (ends : Token → Bool) → ((token : Token) → ends token ≡ true → token.kind ≡ kinds.End)
-    → (tokens : List Token) → EndsWithEnd tokens → All AreEnded (split_inclusive ends tokens)
-unfolding split_inclusive
-split_ended ends are [] all = All-nil AreEnded
-split_ended ends are (token ∷ []) all =
-    elim (cases_Bool (ends token)) [
-      | inl is ↦ rw is (All-cons AreEnded (token ∷ []) [] all (All-nil AreEnded))
-      | inr goes ↦ rw goes (All-cons AreEnded (token ∷ []) [] all (All-nil AreEnded))
-    ]
-split_ended ends are (token ∷ next ∷ tokens) all =
-    let others : All AreEnded (split_inclusive ends (next ∷ tokens)) = split_ended ends are (next ∷ tokens) all in
-    elim (cases_Bool (ends token)) [
-      | inl is ↦ rw is (All-cons AreEnded (token ∷ []) (split_inclusive ends (next ∷ tokens)) (are token is) others)
-      | inr goes ↦ rw goes (onto_ended token (split_inclusive ends (next ∷ tokens)) (λ none. absurd (split_some ends next tokens none)) others)
-    ]
-
-both_first : (one other : Bool) → (one && other) ≡ true → one ≡ true
-both_first true other is = refl
-both_first false other is = cc
-
-newline_ends : (token : Token) → is_newline token ≡ true → token.kind ≡ kinds.End
-unfolding is_newline is_end
-newline_ends token is = end_is token (both_first _ _ is)
-
--- a statement, whose tokens end with an end where it is no directive
-pub record GoodStatement (P : ℕ → Type 0) (statement : Statement) : Type 0 where
-  pub sound : Sound P statement.tokens
-  pub ends : statement.directive ≡ false → AreEnded statement.tokens
-
-parts_good : (P : ℕ → Type 0) (parts : List (List Token)) → All (Sound P) parts → All AreEnded parts → All (GoodStatement P) (map plain parts)
-parts_good P parts sound ended = All-map (GoodStatement P) plain parts (λ k d inside. record { sound = sound k d inside; ends = λ is. ended k d inside })
-
-ends_from : (tokens : List Token) → AreEnded tokens → EndsWithEnd tokens
-ends_from [] ended = tt
-ends_from (token ∷ []) ended = ended
-ends_from (token ∷ next ∷ tokens) ended = ends_from (next ∷ tokens) ended
-
-line_good : (P : ℕ → Type 0) (line : List Token) → Sound P line → AreEnded line → All (GoodStatement P) (statements_on line)
-unfolding statements_on
-line_good P line sound ended =
-    holds_either (All (GoodStatement P)) (begins_with_hash line) _ _
-    (All-cons (GoodStatement P) (directive line) [] (record { sound = sound; ends = λ is. ended }) (All-nil (GoodStatement P)))
-    (parts_good P (split_inclusive is_end line) (split_all (IsSound P) is_end line sound) (split_ended is_end end_is line (ends_from line ended)))
-
-lines_good : (P : ℕ → Type 0) (lines : List (List Token)) → All (Sound P) lines → All AreEnded lines → All (GoodStatement P) (flat_map statements_on lines)
-lines_good P [] sound ended = All-nil (GoodStatement P)
-lines_good P (line ∷ lines) sound ended =
-    All-append (GoodStatement P) (statements_on line) (flat_map statements_on lines)
-    (line_good P line (All-head (Sound P) line lines sound) (All-head AreEnded line lines ended))
-    (lines_good P lines (All-tail (Sound P) line lines sound) (All-tail AreEnded line lines ended))
-
-statements_good : (P : ℕ → Type 0) (tokens : List Token) → AreGood P tokens → All (GoodStatement P) (statements_of tokens)
-unfolding statements_of
-statements_good P tokens good =
-    lines_good P (split_inclusive is_newline tokens) (split_all (IsSound P) is_newline tokens good.sound) (split_ended is_newline newline_ends tokens good.ends)
+use Rattle.asm_macro.proofs.FormLemmas.{IsFormed, Formed, IsSound, Sound, LastEnd, Ready, FormedDefinitions, GoodWork, placed_sound, is_end_from, ready_goes, run_sound}
+use Rattle.asm_macro.proofs.FormStatements.{formed_of, AreGood, AreEnded, GoodStatement, statements_good}
 
 -- what a `#define` says
 
@@ -194,15 +77,15 @@ definition_good (name ∷ tokens) formed =
 
 -- macros in force
 
-GoodMacro : Option Definition → Type 0
+pub GoodMacro : Option Definition → Type 0
 GoodMacro value = (definition : Definition) → value ≡ Some definition → Formed definition.body
 
-named_good : (definitions : Definitions) (name : List ℕ) (value : Option Definition)
+pub named_good : (definitions : Definitions) (name : List ℕ) (value : Option Definition)
     → FormedDefinitions definitions → GoodMacro value → FormedDefinitions (with_name definitions name value)
 unfolding with_name GoodMacro
 named_good definitions name value all one = λ other. holds_either GoodMacro (bytes_eq name other) value (definitions other) one (all other)
 
-some_good : (definition : Definition) → Formed definition.body → GoodMacro (Some definition)
+pub some_good : (definition : Definition) → Formed definition.body → GoodMacro (Some definition)
 unfolding GoodMacro
 some_good definition formed = λ other is. let same : definition ≡ other = cc in rw (← same) formed
 
@@ -216,7 +99,7 @@ pub record GoodState (P : ℕ → Type 0) (most : ℕ) (state : State) : Type 0 
   pub macros : FormedDefinitions state.definitions
   pub work : GoodWork P most state.work
 
-abbrev StateOrRefusal : (ℕ → Type 0) → ℕ → Result State MacroNo → Type 0
+abbrev pub StateOrRefusal : (ℕ → Type 0) → ℕ → Result State MacroNo → Type 0
 StateOrRefusal P most answer = Holds (GoodState P most) (RefusedIn P) answer
 
 with_macros : (P : ℕ → Type 0) (most : ℕ) (state : State) (definitions : Definitions)
@@ -264,7 +147,7 @@ rows_good : (built_in : BuiltIn) → All GoodRow (rows_of built_in)
 rows_good Textflag = textflag_good
 rows_good Funcdata = funcdata_good
 
-abbrev MacrosOrRefusal : (ℕ → Type 0) → Result Definitions MacroNo → Type 0
+abbrev pub MacrosOrRefusal : (ℕ → Type 0) → Result Definitions MacroNo → Type 0
 MacrosOrRefusal P answer = Holds FormedDefinitions (RefusedIn P) answer
 
 row_by : (P : ℕ → Type 0) (built_in : BuiltIn) (pos : Pos) (definitions : Definitions) (row : Row) (rows : List Row) (there : Option Definition)
@@ -306,7 +189,7 @@ include_built_in_good P most levels pos state (Some built_in) here good =
 
 -- the files of a build
 
-pub GoodFiles : (ℕ → Type 0) → Names (List Token) → Type 0
+unfoldable pub GoodFiles : (ℕ → Type 0) → Names (List Token) → Type 0
 GoodFiles P files = (name : List ℕ) (tokens : List Token) → files name ≡ Some tokens → AreGood P tokens
 
 unfoldable pub GoodNumbers : (ℕ → Type 0) → Names ℕ → Type 0
@@ -576,7 +459,7 @@ statements_read P most inner context levels (statement ∷ statements) place sta
 top_good : (P : ℕ → Type 0) → GoodPlace P top
 top_good P = record { mapping = tt; conditions = All-nil (λ condition. P condition.pos.file) }
 
-file_good : (P : ℕ → Type 0) (most levels : ℕ) (context : Context) (tokens : List Token) (state : State)
+pub file_good : (P : ℕ → Type 0) (most levels : ℕ) (context : Context) (tokens : List Token) (state : State)
     → GoodContext P context → AreGood P tokens → GoodState P most state → StateOrRefusal P most (read_file levels context tokens state)
 unfolding read_file Reads
 file_good P most zero context tokens state files whole good =
@@ -584,107 +467,3 @@ file_good P most zero context tokens state files whole good =
 file_good P most (suc levels) context tokens state files whole good =
     statements_read P most (read_file levels context) context (suc levels) (statements_of tokens) top state
     (λ tokens state whole good. file_good P most levels context tokens state files whole good) files (statements_good P tokens whole) (top_good P) good
-
--- a build
-
--- tokens of a file that a build is made of
-pub record IsGoodFile (P : ℕ → Type 0) (tokens : Tokens) : Type 0 where
-  pub form : AreTokens tokens
-  pub file : P tokens.file
-  pub places : StandIn P tokens
-
-sound_both : (P : ℕ → Type 0) (tokens : List Token) → Formed tokens → All (λ token. P token.pos.file) tokens → Sound P tokens
-sound_both P tokens formed places = λ k d inside. record { form = formed k d inside; place = places k d inside }
-
-pub good_file : (P : ℕ → Type 0) (tokens : Tokens) → IsGoodFile P tokens → AreGood P tokens.list
-good_file P tokens good = record { sound = sound_both P tokens.list good.form.forms good.places; ends = good.form.ended }
-
-Good : (ℕ → Type 0) → Option (List Token) → Type 0
-Good P given = (tokens : List Token) → given ≡ Some tokens → AreGood P tokens
-
-put_files : (P : ℕ → Type 0) (files : Names (List Token)) (name : List ℕ) (tokens : List Token)
-    → GoodFiles P files → AreGood P tokens → GoodFiles P (with_name files name (Some tokens))
-unfolding with_name GoodFiles Good
-put_files P files name tokens all good = λ other.
-    holds_either (Good P) (bytes_eq name other) (Some tokens) (files other) (λ found is. let same : tokens ≡ found = cc in rw (← same) good) (all other)
-
-pub included_good : (P : ℕ → Type 0) (files : Names (List Token)) (includes : List (List ℕ × Tokens))
-    → GoodFiles P files → All (λ include. IsGoodFile P include.1) includes → GoodFiles P (included files includes)
-unfolding included
-included_good P files [] all good = all
-included_good P files (include ∷ includes) all good =
-    included_good P (if is_some (files include.0) then files else with_name files include.0 (Some include.1.list)) includes
-    (holds_either (GoodFiles P) (is_some (files include.0)) files (with_name files include.0 (Some include.1.list)) all
-    (put_files P files include.0 include.1.list all (good_file P include.1 (All-head (λ include. IsGoodFile P include.1) include includes good))))
-    (All-tail (λ include. IsGoodFile P include.1) include includes good)
-
-pub no_files : (P : ℕ → Type 0) → GoodFiles P nothing
-unfolding GoodFiles
-no_files P = λ name tokens is. cc
-
-first_in : (P : ℕ → Type 0) (file : ℕ) (tokens : List Token) → P file → All (λ token. P token.pos.file) tokens → P (first_pos file tokens).file
-first_in P file [] here all = here
-first_in P file (token ∷ tokens) here all = All-head (λ token. P token.pos.file) token tokens all
-
-pub defined_good : (P : ℕ → Type 0) (definitions : Definitions) (defines : List (List ℕ × Tokens))
-    → FormedDefinitions definitions → All (λ define. IsGoodFile P define.1) defines → MacrosOrRefusal P (defined definitions defines)
-unfolding defined
-defined_good P definitions [] all good = all
-defined_good P definitions (define ∷ defines) all good =
-    let first : IsGoodFile P define.1 = All-head (λ define. IsGoodFile P define.1) define defines good in
-    holds_either (MacrosOrRefusal P) (is_some (definitions define.0)) _ _ (first_in P define.1.file define.1.list first.file first.places)
-    (defined_good P (with_name definitions define.0 (Some (value_definition define.1))) defines
-    (named_good definitions define.0 (Some (value_definition define.1)) all
-    (some_good (value_definition define.1) (All-take IsFormed _ define.1.list first.form.forms)))
-    (All-tail (λ define. IsGoodFile P define.1) define defines good))
-
--- the results of a build
-pub record GoodResults (P : ℕ → Type 0) (most : ℕ) (all : List Tokens) : Type 0 where
-  pub forms : All AreTokens all
-  pub places : All (StandIn P) all
-  pub count : token_count all ≤ most
-
-abbrev pub ResultsOrRefusal : (ℕ → Type 0) → ℕ → Result (List Tokens) MacroNo → Type 0
-ResultsOrRefusal P most answer = Holds (GoodResults P most) (RefusedIn P) answer
-
-more_results : (P : ℕ → Type 0) (most file : ℕ) (state : State) (others : List Tokens)
-    → GoodState P most state → GoodResults P state.work.room others → GoodResults P most (record { file = file; list = state.work.out } ∷ others)
-more_results P most file state others good rest =
-    let tokens : Tokens = record { file = file; list = state.work.out } in
-    record {
-      forms = All-cons AreTokens tokens others (record { forms = formed_of P state.work.out good.work.made.out; ended = good.work.ends }) rest.forms;
-      places = All-cons (StandIn P) tokens others (λ k d inside. (good.work.made.out k d inside).place) rest.places;
-      count = omega (arith, good.work.made.count, rest.count, sum_by-cons (λ tokens. length tokens.list) tokens others);
-    }
-
-start_good : (P : ℕ → Type 0) (definitions : Definitions) (room uses : ℕ) → FormedDefinitions definitions → GoodState P room (started definitions room uses)
-start_good P definitions room uses all = record {
-  macros = all;
-  work = record { made = record { out = All-nil (IsSound P); count = omega arith }; ends = tt };
-}
-
-sources_good : (P : ℕ → Type 0) (nesting : ℕ) (context : Context) (definitions : Definitions) (room uses : ℕ) (sources : List Tokens)
-    → GoodContext P context → FormedDefinitions definitions → All (IsGoodFile P) sources
-    → ResultsOrRefusal P room (expand_sources nesting context definitions room uses sources)
-unfolding expand_sources
-sources_good P nesting context definitions room uses [] files all good = record { forms = All-nil AreTokens; places = All-nil (StandIn P); count = omega arith }
-sources_good P nesting context definitions room uses (tokens ∷ sources) files all good =
-    holds_then (GoodState P room) (GoodResults P room) (RefusedIn P) (read_file nesting context tokens.list (started definitions room uses))
-    (λ state. expand_sources nesting context definitions state.work.room state.work.uses sources >>= λ others. Ok (record { file = tokens.file; list = state.work.out } ∷ others))
-    (file_good P room nesting context tokens.list (started definitions room uses) files (good_file P tokens (All-head (IsGoodFile P) tokens sources good)) (start_good P definitions room uses all))
-    (λ state made. holds_then (GoodResults P state.work.room) (GoodResults P room) (RefusedIn P) (expand_sources nesting context definitions state.work.room state.work.uses sources)
-    (λ others. Ok (record { file = tokens.file; list = state.work.out } ∷ others))
-    (sources_good P nesting context definitions state.work.room state.work.uses sources files all (All-tail (IsGoodFile P) tokens sources good))
-    (λ others rest. more_results P room tokens.file state others made rest))
-
-pub expansion_good : (P : ℕ → Type 0) (limits : Limits) (sources : List Tokens) (includes defines : List (List ℕ × Tokens))
-    → GoodNumbers P (context_for sources includes defines).files
-    → All (IsGoodFile P) sources → All (λ include. IsGoodFile P include.1) includes → All (λ define. IsGoodFile P define.1) defines
-    → ResultsOrRefusal P limits.tokens (expansion limits sources includes defines)
-unfolding expansion
-expansion_good P limits sources includes defines numbers one two three =
-    holds_then FormedDefinitions (GoodResults P limits.tokens) (RefusedIn P) (defined nothing defines)
-    (λ definitions. expand_sources limits.nesting (context_for sources includes defines) definitions limits.tokens limits.uses sources)
-    (defined_good P nothing defines (λ name definition is. cc) three)
-    (λ definitions all. sources_good P limits.nesting (context_for sources includes defines) definitions limits.tokens limits.uses sources
-    (record { includes = included_good P nothing includes (no_files P) two; files = numbers }) all one)

@@ -8,6 +8,8 @@ pub mod UseLemmas
 pub mod FileLemmas
 pub mod OutcomeLemmas
 pub mod FormLemmas
+pub mod FormStatements
 pub mod FormFiles
+pub mod FormBuilds
 pub mod PlaceLemmas
 pub mod TextLemmas

@@ -12,7 +12,8 @@ use Rattle.asm_macro.specs.Builds.{line_names_of, greatest, greatest_file, numbe
 use Rattle.asm_macro.specs.Places.{file_count, AreInTheirFile, ArePlaced, RefusedIn, IsBelow}
 use Rattle.asm_macro.proofs.RefusalLemmas.{holds_either}
 use Rattle.asm_macro.proofs.BuildLemmas.{greatest_append}
-use Rattle.asm_macro.proofs.FormFiles.{GoodNumbers, IsGoodFile, GoodResults, ResultsOrRefusal, expansion_good}
+use Rattle.asm_macro.proofs.FormFiles.{GoodNumbers}
+use Rattle.asm_macro.proofs.FormBuilds.{IsGoodFile, GoodResults, ResultsOrRefusal, expansion_good}
 
 greatest_over : (most : ℕ) (files : List ℕ) → most ≤ greatest most files
 greatest_over most [] = omega arith

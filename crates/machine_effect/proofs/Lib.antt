@@ -3,3 +3,4 @@ pub mod PageLemmas
 pub mod FlowLemmas
 pub mod StateLemmas
 pub mod StepLemmas
+pub mod WitnessLemmas

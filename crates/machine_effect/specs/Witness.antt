@@ -1,6 +1,6 @@
 -- A second witness for effects: runs of single instructions on a processor, or told by a manual's words, and the test that an effect
 -- allows just what was seen; and what a manual's table of flags says of a flag rule.
-use Rattle.std.specs.Prelude.{ℕ, Bool, true, false, List, [], ◌∷◌, ◌+◌, ◌-◌, ◌*◌, ◌/◌, ◌%◌, ◌^◌, ◌==◌, ◌&&◌, not, nat_le, nat_lt, replicate, slice_index, slice_set, codes, Option, Some, None, if◌then◌else◌}
+use Rattle.std.specs.Prelude.{◌≡◌, ◌⊎◌, ℕ, Bool, true, false, List, [], ◌∷◌, ◌+◌, ◌-◌, ◌*◌, ◌/◌, ◌%◌, ◌^◌, ◌==◌, ◌&&◌, not, nat_le, nat_lt, replicate, slice_index, slice_set, codes, Option, Some, None, IsSome, if◌then◌else◌}
 use Rattle.std.specs.Bool.{beq}
 use Rattle.std.specs.Option.{option_map, option_and_then}
 use Rattle.std.specs.List.{list_any}
@@ -8,6 +8,7 @@ use Rattle.std.specs.Str.{bytes_eq}
 use Rattle.std.specs.FinMap as map
 use Rattle.machine_effect.specs.declared.state.State.{State}
 use Rattle.machine_effect.specs.declared.state.Flags.{Flags}
+use Rattle.machine_effect.specs.declared.effect.Atom.{Atom}
 use Rattle.machine_effect.specs.declared.effect.Effect.{Effect}
 use Rattle.machine_effect.specs.declared.effect.Access.{Access}
 use Rattle.machine_effect.specs.declared.effect.Value.{Value}
@@ -42,12 +43,18 @@ pub record Run : Type 0 where
   -- where the machine went on: behind the instruction, or by a jump, a call, a return, a system call or a stop
   pub goes : Next
 
--- the codes of `-` and `?`
-abbrev clear : ℕ
+-- the codes of the letters `-`, `?`, `k` and `s`
+abbrev pub clear : ℕ
 clear = 45
 
-abbrev free : ℕ
+abbrev pub free : ℕ
 free = 63
+
+abbrev pub kept : ℕ
+kept = 107
+
+abbrev pub set : ℕ
+set = 115
 
 abbrev is_set : List ℕ → ℕ → Bool
 is_set letters k = not (slice_index letters k == clear)
@@ -183,3 +190,24 @@ flags_told (rule.CountOnes a width) = codes "-s---"
 flags_told (rule.AddShifted a b shift count) = codes "ssssk"
 flags_told (rule.SubtractShifted a b shift count) = codes "ssssk"
 flags_told (rule.AndShifted a b shift count) = codes "-ss-k"
+
+-- a letter tells what a flag may be, which was so before
+abbrev pub IsTold : ℕ → Bool → Option Bool → Type 0
+IsTold letter before choice =
+    ((letter ≡ kept) × (choice ≡ Some before))
+    ⊎ (((letter ≡ free) × (choice ≡ None))
+    ⊎ (((letter ≡ clear) × (choice ≡ Some false))
+    ⊎ ((letter ≡ set) × IsSome choice)))
+
+pub record AreTold (letters : List ℕ) (before : Flags) (choice : FlagChoice) : Type 0 where
+  pub carry : IsTold (slice_index letters 0) before.carry choice.carry
+  pub zero : IsTold (slice_index letters 1) before.zero choice.zero
+  pub sign : IsTold (slice_index letters 2) before.sign choice.sign
+  pub over : IsTold (slice_index letters 3) before.over choice.over
+  pub parity : IsTold (slice_index letters 4) before.parity choice.parity
+
+-- a shift or a rotation by a count of 0
+abbrev pub is_by_zero : (Atom → ℕ) → FlagRule → Bool
+is_by_zero atom (rule.Shift shift a count width) = atom count % width == 0
+is_by_zero atom (rule.Rotate count width) = atom count % width == 0
+is_by_zero atom _ = false

@@ -1,5 +1,5 @@
 // Laws about the definitions in specs/, each the contract of a function that does nothing.
-ghost use Rattle.std.specs.Prelude.{◌≡◌, ℕ, ◌+◌, ◌-◌, ◌*◌, ◌%◌, ◌^◌, ◌<◌, Some, IsTrue, length};
+ghost use Rattle.std.specs.Prelude.{◌≡◌, ℕ, ◌+◌, ◌-◌, ◌*◌, ◌%◌, ◌^◌, ◌<◌, Some, IsTrue, false, length};
 ghost use Rattle.std.specs.List.{list_all};
 ghost use Rattle.machine_effect.specs.OperationCases as operations;
 ghost use Rattle.machine_effect.specs.FlagCases as flags;
@@ -7,13 +7,17 @@ ghost use Rattle.machine_effect.specs.declared.effect.Access.{Access};
 ghost use Rattle.machine_effect.specs.declared.effect.Atom.{Atom};
 ghost use Rattle.machine_effect.specs.declared.effect.Effect.{Effect};
 ghost use Rattle.machine_effect.specs.declared.effect.Value.{Value};
+ghost use Rattle.machine_effect.specs.declared.flag_rule.FlagRule.{FlagRule};
 ghost use Rattle.machine_effect.specs.declared.flow.Shape.{Shape};
+ghost use Rattle.machine_effect.specs.declared.state.Flags.{Flags};
 ghost use Rattle.machine_effect.specs.declared.op.Op.TheVariants.{Copy, Add, Subtract};
 ghost use Rattle.machine_effect.specs.declared.state.State.{State};
 ghost use Rattle.machine_effect.specs.Memory.{Memory, number_at, word_at, bytes_of, put};
 ghost use Rattle.machine_effect.specs.Values.{atom_of};
 ghost use Rattle.machine_effect.specs.Applies.{IsState, link_of};
 ghost use Rattle.machine_effect.specs.Flow.{flow_of};
+ghost use Rattle.machine_effect.specs.FlagsAfter.{flags_by};
+ghost use Rattle.machine_effect.specs.Witness.{flags_told, is_by_zero, AreTold};
 ghost use Rattle.machine_effect.specs.Steps.{StateStays, FlowTells, LinksThrough, WritesOne, WritesValue, IsWord, GivesOnly};
 ghost use Rattle.machine_effect.specs.Stores.{HasLowNumbers, BytesStay, LeavesMissed, LoadsNumber};
 
@@ -70,4 +74,10 @@ pub fn stores_numbers()
     ensures put { (memory : Memory) (at count number : ℕ)
         → number_at (put memory at (bytes_of count number)) at count ≡ Some (number % 2 ^ (8 * count)) }
     ensures length { (count number : ℕ) → length (bytes_of count number) ≡ count }
+{}
+
+/// The letters of a flag rule tell what it does to each flag, but for a shift and a rotation by 0, which keep all.
+pub fn letters_tell_flags()
+    ensures { (rule : FlagRule) (before : Flags) (atom : Atom → ℕ) → is_by_zero atom rule ≡ false
+        → AreTold (flags_told rule) before (flags_by before atom rule) }
 {}

@@ -23,7 +23,8 @@ pub use flag_rule::FlagRule;
 pub use flow::{Flow, Shape, SpMove, effect_flow};
 pub use frame::{Calls, Frame};
 pub use laws::{
-    call_links, flow_tells, keeps_widths, loads_numbers, one_write, stores_numbers, word_values,
+    call_links, flow_tells, keeps_widths, letters_tell_flags, loads_numbers, one_write,
+    stores_numbers, word_values,
 };
 pub use mem::Mem;
 pub use next::Next;
