@@ -1,0 +1,5 @@
+pub mod Causes
+pub mod Tokens
+pub mod Operators
+pub mod Reader
+pub mod Expressions
