@@ -1,4 +1,8 @@
+pub mod Ascii
 pub mod Numbers
+pub mod Statements
+pub mod Refusals
+pub mod NameSet
 pub mod Shelf
 pub mod Sink
 pub mod MemShelf
