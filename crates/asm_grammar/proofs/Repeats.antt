@@ -1,6 +1,8 @@
 -- Reading one part after the other, as a loop does.
 use Rattle.std.proofs.Common.{◌≡◌, ℕ, zero, suc, ◌+◌, ◌<◌, ◌≤◌, List, length, Option, Some, None, refl, sym, ap, ◌∙◌, arith}
-use Rattle.asm_grammar.specs.Reader.{Reading, Reader, ◌>>=◌, and_then, repeated, going_on}
+use Rattle.asm_grammar.specs.declared.stop.Stop.{Stop}
+use Rattle.asm_grammar.specs.declared.stop.Stop.TheVariants.{Form, Memory}
+use Rattle.asm_grammar.specs.Reader.{Reading, Reader, ◌>>=◌, and_then, repeated, going_on, Stops}
 
 -- what a loop still has to read gives what it was to read from the start
 pub record IsRest {A B : Type 0} (begins : Reader (Option B)) (goes : A → B → Reader A) (whole : Option (A × Reading)) (part : A) (at : Reading) : Type 0 where
@@ -50,3 +52,10 @@ pub stops : {A B : Type 0} (begins : Reader (Option B)) (goes : A → B → Read
     → begins at ≡ Some (Some found, then) → length then.rest < length at.rest → goes part found then ≡ None → whole ≡ None
 stops begins goes whole part at then found rest begun shorter gone =
     stop_at begins goes whole part at then found rest.most rest.bound rest.so_far begun shorter gone
+
+-- the same of a call that stopped
+pub ends : {A B : Type 0} (begins : Reader (Option B)) (goes : A → B → Reader A) (whole : Option (A × Reading)) (part : A) (at then : Reading) (found : B) (stop : Stop)
+    → IsRest begins goes whole part at
+    → begins at ≡ Some (Some found, then) → length then.rest < length at.rest → Stops (goes part found then) stop → Stops whole stop
+ends begins goes whole part at then found Form rest begun shorter gone = stops begins goes whole part at then found rest begun shorter gone
+ends begins goes whole part at then found Memory rest begun shorter gone = tt

@@ -3,3 +3,5 @@ pub mod Tokens
 pub mod Operators
 pub mod Reader
 pub mod Expressions
+pub mod Names
+pub mod Operands

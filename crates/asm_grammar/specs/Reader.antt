@@ -1,5 +1,5 @@
 -- How a statement is read: from left to right, with the lowest of what is refused of its form so far.
-use Rattle.std.specs.Prelude.{◌≡◌, ℕ, zero, suc, ◌<◌, ◌≤◌, Bool, true, false, List, [], ◌∷◌, length, Option, Some, None, Result, Ok, Err, is_some, IsTrue, if◌then◌else◌}
+use Rattle.std.specs.Prelude.{◌≡◌, ℕ, zero, suc, ◌<◌, ◌≤◌, Bool, true, false, List, [], ◌∷◌, length, Option, Some, None, Result, Ok, Err, ◌&&◌, ◌||◌, codes, bytes_eq, if◌then◌else◌}
 use Rattle.asm_lex.specs.declared.token.Token.{Token}
 use Rattle.asm_grammar.specs.declared.cause.Cause.{Cause}
 use Rattle.asm_grammar.specs.declared.operator.Operator.{Operator}
@@ -8,7 +8,7 @@ use Rattle.asm_grammar.specs.declared.stop.Stop.{Stop}
 use Rattle.asm_grammar.specs.declared.stop.Stop.TheVariants.{Form, Memory}
 use Rattle.asm_grammar.specs.Causes.{lower}
 use Rattle.asm_grammar.specs.Operators.{operator_of}
-use Rattle.asm_grammar.specs.Tokens.{word_of, sign_of, text_of, number_of, is_sign}
+use Rattle.asm_grammar.specs.Tokens.{word_of, sign_of, text_of, number_of, is_sign, is_word}
 
 -- the tokens that are left of the statement, and the lowest cause that was found in what was read
 pub record Reading : Type 0 where
@@ -113,9 +113,44 @@ abbrev pub is_empty : List Token → Bool
 is_empty [] = true
 is_empty (token ∷ tokens) = false
 
--- whether the statement is read
-abbrev pub ended : Reader Bool
-ended = λ at. Some (is_empty at.rest, at)
+-- whether what follows passes a test; nothing is passed
+abbrev pub sees : (List Token → Bool) → Reader Bool
+sees test = λ at. Some (test at.rest, at)
+
+-- whether an operand ends here: the statement is read, or a comma is next
+abbrev pub is_over : List Token → Bool
+is_over [] = true
+is_over (token ∷ tokens) = is_sign (codes ",") token
+
+-- whether an offset is next
+abbrev pub sees_offset : List Token → Bool
+sees_offset [] = false
+sees_offset (token ∷ tokens) = is_sign (codes "+") token || is_sign (codes "-") token
+
+-- whether a base is next: a bracket with a word in it
+abbrev pub sees_base : List Token → Bool
+sees_base (token ∷ next ∷ tokens) = is_sign (codes "(") token && is_word next
+sees_base _ = false
+
+-- this sign, where it may stand
+abbrev pub eat_if : Bool → List ℕ → Reader Bool
+eat_if true sign = eat sign
+eat_if false sign = pure false
+
+-- the field `shift` of arm64's instructions
+abbrev pub shift_kind : List ℕ → Option ℕ
+shift_kind sign =
+    if bytes_eq sign (codes "<<") then Some 0
+    else (if bytes_eq sign (codes ">>") then Some 1
+    else (if bytes_eq sign (codes "->") then Some 2
+    else None))
+
+abbrev pub shift_in : Option (List ℕ) → Option ℕ
+shift_in None = None
+shift_in (Some sign) = shift_kind sign
+
+abbrev pub eat_shift : Reader (Option ℕ)
+eat_shift = next (λ token. shift_in (sign_of token))
 
 -- a part, and as many more as begin, each of which goes on from the one before; each turn takes a token
 abbrev pub repeated : {A B : Type 0} → Reader (Option B) → (A → B → Reader A) → ℕ → A → Reader A

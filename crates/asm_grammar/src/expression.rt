@@ -20,7 +20,7 @@ pub fn read_expression(reader: &mut Reader<'_>) -> Result<u64, Stop>
 }
 
 #[cycle(expression)]
-#[tactic(auto, unfolding(crate::specs::Expressions::chain), using(crate::proofs::Repeats::starts, crate::proofs::Repeats::goes_on))]
+#[tactic(auto, unfolding(crate::specs::Expressions::chain), using(crate::proofs::Repeats::starts, crate::proofs::Repeats::is_done))]
 fn sum(reader: &mut Reader<'_>, depth: usize) -> Result<u64, Stop>
     ensures { Reads (spec.sum (spec.bracketed depth)) reader.old result reader.new }
 {
@@ -33,7 +33,7 @@ fn sum(reader: &mut Reader<'_>, depth: usize) -> Result<u64, Stop>
 }
 
 #[cycle(expression)]
-#[tactic(auto, unfolding(crate::specs::Expressions::chain), using(crate::proofs::Repeats::starts, crate::proofs::Repeats::goes_on))]
+#[tactic(auto, unfolding(crate::specs::Expressions::chain), using(crate::proofs::Repeats::starts, crate::proofs::Repeats::is_done))]
 fn product(reader: &mut Reader<'_>, depth: usize) -> Result<u64, Stop>
     ensures { Reads (spec.product (spec.bracketed depth)) reader.old result reader.new }
 {

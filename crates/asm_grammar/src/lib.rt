@@ -3,13 +3,17 @@
 #![tactic(auto)]
 
 mod cause;
+mod draft;
 mod expression;
+mod names;
+mod operand;
 mod operator;
 mod reader;
 mod stop;
 mod word;
 
 pub use cause::Cause;
+pub use draft::{Draft, SymbolName};
 pub use reader::Reader;
 pub use stop::Stop;
 pub use word::Word;

@@ -1,4 +1,4 @@
-ghost use Rattle.std.specs.Prelude.{◌≡◌, ◌≤◌, length};
+ghost use Rattle.std.specs.Prelude.{◌≡◌, ◌≤◌, length, None};
 ghost use Rattle.asm_grammar.specs.Reader as spec;
 ghost use Rattle.asm_grammar.specs.Reader.{Reads, Takes, Finds, Eats};
 ghost use Rattle.std.specs.List.{prefix_len};
@@ -32,7 +32,7 @@ impl<'a> Model for Reader<'a> {
 impl<'a> Reader<'a> {
     /// A reader at the first of these tokens.
     pub fn new(rest: &'a [Token]) -> Self
-        ensures { result ≡ record { rest = rest.now; found = Option.None } }
+        ensures { result ≡ record { rest = rest.now; found = None } }
     {
         Reader { rest, found: None }
     }
@@ -155,6 +155,51 @@ impl<'a> Reader<'a> {
         }
     }
 
+    /// Takes a sign that shifts a register, where one is next, as its kind.
+    #[tactic(auto, unfolding(crate::specs::Reader::next))]
+    pub fn eat_shift(&mut self) -> Option<u8>
+        ensures { Finds spec.eat_shift self.old result self.new }
+    {
+        match self.rest {
+            [token, rest @ ..] => {
+                let kind = shift_in(token)?;
+                self.rest = rest;
+                Some(kind)
+            }
+            [] => None,
+        }
+    }
+
+    /// Whether an operand ends here: the statement is read, or a comma is next.
+    pub fn is_over(&self) -> bool
+        ensures { result ≡ spec.is_over self.now.rest }
+    {
+        match self.rest {
+            [] => true,
+            [token, ..] => is_sign(token, b","),
+        }
+    }
+
+    /// Whether an offset is next.
+    pub fn sees_offset(&self) -> bool
+        ensures { result ≡ spec.sees_offset self.now.rest }
+    {
+        match self.rest {
+            [] => false,
+            [token, ..] => is_sign(token, b"+") || is_sign(token, b"-"),
+        }
+    }
+
+    /// Whether a base is next: a bracket with a word in it.
+    pub fn sees_base(&self) -> bool
+        ensures { result ≡ spec.sees_base self.now.rest }
+    {
+        match self.rest {
+            [token, next, ..] => is_sign(token, b"(") && is_word(next),
+            _ => false,
+        }
+    }
+
     /// Takes the signs before a value.
     #[tactic(auto, unfolding(crate::specs::Expressions::prefixes))]
     pub fn prefixes(&mut self) -> &'a [Token]
@@ -208,6 +253,26 @@ fn operator_in(group: Group, token: &Token) -> Option<Operator>
 {
     match token.kind {
         Kind::Sign => operator_of(group, token.text.as_slice()),
+        _ => None,
+    }
+}
+
+fn shift_in(token: &Token) -> Option<u8>
+    ensures { result ≡ spec.shift_in (tokens.sign_of token.now) }
+{
+    match token.kind {
+        Kind::Sign => shift_kind(token.text.as_slice()),
+        _ => None,
+    }
+}
+
+fn shift_kind(sign: &[u8]) -> Option<u8>
+    ensures { result ≡ spec.shift_kind sign.now }
+{
+    match sign {
+        b"<<" => Some(0),
+        b">>" => Some(1),
+        b"->" => Some(2),
         _ => None,
     }
 }
