@@ -5,3 +5,6 @@ pub mod Reader
 pub mod Expressions
 pub mod Names
 pub mod Operands
+pub mod Texts
+pub mod Directives
+pub mod Statements

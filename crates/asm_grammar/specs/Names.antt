@@ -18,4 +18,4 @@ abbrev pub package_of : List ℕ → List ℕ
 package_of word = if has_middle_dot word then codes "main" else []
 
 unfoldable pub name_of : List ℕ → List ℕ
-name_of word = filter_map name_byte (package_of word ++ word)
+name_of word = package_of word ++ filter_map name_byte word

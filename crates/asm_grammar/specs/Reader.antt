@@ -132,6 +132,19 @@ abbrev pub sees_base : List Token → Bool
 sees_base (token ∷ next ∷ tokens) = is_sign (codes "(") token && is_word next
 sees_base _ = false
 
+abbrev pub sees_word : List Token → Bool
+sees_word [] = false
+sees_word (token ∷ tokens) = is_word token
+
+-- a label: a word with a colon behind it
+abbrev pub label_from : Reading → List Token → Option (Option (List ℕ) × Reading)
+label_from at (token ∷ next ∷ tokens) =
+    if is_word token && is_sign (codes ":") next then Some (Some token.text, behind at tokens) else Some (None, at)
+label_from at _ = Some (None, at)
+
+unfoldable pub eat_label : Reader (Option (List ℕ))
+eat_label = λ at. label_from at at.rest
+
 -- this sign, where it may stand
 abbrev pub eat_if : Bool → List ℕ → Reader Bool
 eat_if true sign = eat sign

@@ -10,12 +10,12 @@ use std::alloc::Global;
 pub fn name_of(alloc: Global, word: &[u8]) -> Result<Name, Memory>
     ensures { IfOk result (λ name. name ≡ spec.name_of word.now) }
 {
-    let package = package_of(word);
-    let bytes = package
-        .iter()
-        .chain(word.iter())
-        .filter_map(|byte| name_byte(*byte))
-        .collect(alloc)?;
+    let mut bytes = Vec::from_slice(alloc, package_of(word))?;
+    for byte in word {
+        if let Some(byte) = name_byte(*byte) {
+            bytes.push(byte)?;
+        }
+    }
     Ok(Name::new(bytes))
 }
 

@@ -43,7 +43,7 @@ fn behind_name<'a>(
     reader: &mut Reader<'a>,
     name: Word<'a>,
 ) -> Result<Draft<'a>, Stop>
-    ensures { Reads (spec.behind_name name) reader.old result reader.new }
+    ensures { Reads (spec.behind_name name.entry) reader.old result reader.new }
 {
     if reader.is_over() {
         return Ok(Draft::Bare(name));
@@ -62,7 +62,7 @@ fn shifted<'a>(
     kind: u8,
     name: Word<'a>,
 ) -> Result<Draft<'a>, Stop>
-    ensures { Reads (spec.shifted kind name) reader.old result reader.new }
+    ensures { Reads (spec.shifted kind name.entry) reader.old result reader.new }
 {
     let amount = read_expression(reader)?;
     if amount > 255 {
@@ -83,7 +83,7 @@ fn named<'a>(
     address: bool,
     name: Word<'a>,
 ) -> Result<Draft<'a>, Stop>
-    ensures { Reads (spec.named address name) reader.old result reader.new }
+    ensures { Reads (spec.named address name.entry) reader.old result reader.new }
 {
     let fixed = reader.eat(b"<>");
     let off = read_offset(reader)?.cast_signed();
@@ -102,7 +102,7 @@ fn based<'a>(
     address: bool,
     base: Word<'a>,
 ) -> Result<Draft<'a>, Stop>
-    ensures { spec.IsBased (spec.based name fixed off address base) result }
+    ensures { spec.IsBased (spec.based name.entry fixed off address base.entry) result }
 {
     match base.as_slice() {
         b"SB" => Ok(Draft::Symbol {
@@ -179,7 +179,7 @@ fn memory<'a>(alloc: Global, reader: &mut Reader<'a>) -> Result<Draft<'a>, Stop>
 // `(R1, R2)` behind its comma.
 #[tactic(auto, unfolding(crate::specs::Operands::pair))]
 fn pair<'a>(alloc: Global, reader: &mut Reader<'a>, first: Word<'a>) -> Result<Draft<'a>, Stop>
-    ensures { Reads (spec.pair first) reader.old result reader.new }
+    ensures { Reads (spec.pair first.entry) reader.old result reader.new }
 {
     let second = reader.word()?;
     reader.expect(b")")?;
@@ -197,7 +197,7 @@ fn at_base<'a>(
     off: i64,
     base: Word<'a>,
 ) -> Result<Draft<'a>, Stop>
-    ensures { Reads (spec.at_base off base) reader.old result reader.new }
+    ensures { Reads (spec.at_base off base.entry) reader.old result reader.new }
 {
     match base.as_slice() {
         b"PC" => Ok(Draft::Away(off)),
@@ -217,7 +217,7 @@ fn in_memory<'a>(
     off: i64,
     base: Word<'a>,
 ) -> Result<Draft<'a>, Stop>
-    ensures { Reads (spec.in_memory off base) reader.old result reader.new }
+    ensures { Reads (spec.in_memory off base.entry) reader.old result reader.new }
 {
     let index = read_index(alloc, reader)?;
     Ok(Draft::Plain(Operand::Mem {

@@ -200,6 +200,30 @@ impl<'a> Reader<'a> {
         }
     }
 
+    /// Whether a word is next.
+    pub fn sees_word(&self) -> bool
+        ensures { result ≡ spec.sees_word self.now.rest }
+    {
+        match self.rest {
+            [token, ..] => is_word(token),
+            [] => false,
+        }
+    }
+
+    /// Takes a label where one is next: a word with a colon behind it.
+    #[tactic(auto, unfolding(crate::specs::Reader::eat_label))]
+    pub fn eat_label(&mut self) -> Option<Word<'a>>
+        ensures { Finds spec.eat_label self.old result self.new }
+    {
+        match self.rest {
+            [token, next, rest @ ..] if is_word(token) && is_sign(next, b":") => {
+                self.rest = rest;
+                Some(Word::new(token.text.as_slice()))
+            }
+            _ => None,
+        }
+    }
+
     /// Takes the signs before a value.
     #[tactic(auto, unfolding(crate::specs::Expressions::prefixes))]
     pub fn prefixes(&mut self) -> &'a [Token]
