@@ -3,7 +3,7 @@
 --     TEXT   symbol "," flags "," "$" size [ "-" size ]
 --     DATA   symbol with an offset "/" width "," "$" (text | address | expression)
 --     GLOBL  symbol "," [ flags "," ] "$" expression
-use Rattle.std.specs.Prelude.{◌≡◌, ℕ, ◌%◌, ◌^◌, ◌-◌, Bool, true, false, not, ◌==◌, ◌&&◌, ◌||◌, nat_lt, bit_and, bytes_eq, codes, List, length, take, Option, Some, None, Result, Ok, Err, is_some, if◌then◌else◌}
+use Rattle.std.specs.Prelude.{◌≡◌, ◌<◌, IfSome, ℕ, ◌%◌, ◌^◌, ◌-◌, Bool, true, false, not, ◌==◌, ◌&&◌, ◌||◌, nat_lt, bit_and, bytes_eq, codes, List, length, take, Option, Some, None, Result, Ok, Err, is_some, if◌then◌else◌}
 use Rattle.std.specs.Int.{w64, cast_signed, to_le_bytes}
 use Rattle.asm_grammar.specs.declared.cause.Cause.TheVariants.{ArgumentSizeMissing}
 use Rattle.asm_grammar.specs.declared.draft.SymbolName.{SymbolName}
@@ -12,8 +12,6 @@ use Rattle.asm_grammar.specs.declared.directive.DataLine.{DataLine}
 use Rattle.asm_grammar.specs.declared.directive.DataValue.{DataValue}
 use Rattle.asm_grammar.specs.declared.directive.DataValue.TheVariants.{Bytes, Address}
 use Rattle.asm_grammar.specs.declared.directive.GlobalLine.{GlobalLine}
-use Rattle.asm_grammar.specs.declared.stop.Stop.{Stop}
-use Rattle.asm_grammar.specs.declared.stop.Stop.TheVariants as stops
 use Rattle.asm_grammar.specs.Expressions.{expression}
 use Rattle.asm_grammar.specs.Operands.{offset, width}
 use Rattle.asm_grammar.specs.Texts.{bytes_of}
@@ -66,6 +64,18 @@ size = do
   require (nat_lt value (2 ^ 31))
   pure value
 
+-- the size of locals that a function with these flags may have
+abbrev pub AreLocals : ℕ → ℕ → Type 0
+AreLocals set value = (value % 8 ≡ 0) × (has set noframe ≡ true → value ≡ 0)
+
+abbrev pub AreArguments : Option ℕ → Type 0
+AreArguments given = IfSome given (λ value. value < 2 ^ 31)
+
+-- the sizes of a function are such that it can have them
+pub record IsSized (line : TextLine) : Type 0 where
+  pub locals : AreLocals line.flags line.locals
+  pub arguments : AreArguments line.args
+
 unfoldable pub locals : ℕ → Reader ℕ
 locals set = do
   value ← size
@@ -98,11 +108,6 @@ low_bytes count value = take count (to_le_bytes w64 value)
 -- a text of the width's length
 abbrev pub text_value : List ℕ → ℕ → Option DataValue
 text_value written count = if length (bytes_of written) == count then Some (Bytes (bytes_of written)) else None
-
-abbrev pub IsValue : Option DataValue → Result DataValue Stop → Type 0
-IsValue said (Ok value) = said ≡ Some value
-IsValue said (Err stops.Form) = said ≡ None
-IsValue said (Err stops.Memory) = Unit {0}
 
 -- the address of a symbol, of eight bytes
 unfoldable pub address_value : ℕ → Reader DataValue

@@ -12,13 +12,9 @@
 use Rattle.std.specs.Prelude.{◌≡◌, ℕ, ℤ, Bool, true, false, not, ◌==◌, ◌&&◌, ◌||◌, nat_le, bytes_eq, codes, List, [], ◌∷◌, Option, Some, None, Result, Ok, Err, if◌then◌else◌}
 use Rattle.std.specs.Int.{w64, cast_signed}
 use Rattle.asm_lex.specs.declared.token.Token.{Token}
-use Rattle.goasm_base.specs.declared.statement.Operand.TheVariants.{Imm, Mem, Arg, Auto, Pair, Shifted}
 use Rattle.asm_grammar.specs.declared.cause.Cause.TheVariants.{NamelessArgument}
 use Rattle.asm_grammar.specs.declared.draft.Draft.{Draft}
-use Rattle.asm_grammar.specs.declared.draft.Draft.TheVariants.{Plain, Symbol, Bare, Away}
-use Rattle.asm_grammar.specs.declared.stop.Stop.{Stop}
-use Rattle.asm_grammar.specs.declared.stop.Stop.TheVariants as stops
-use Rattle.asm_grammar.specs.Names.{name_of}
+use Rattle.asm_grammar.specs.declared.draft.Draft.TheVariants.{Imm, Bare, Mem, Symbol, Arg, Auto, Away, Pair, Shifted}
 use Rattle.asm_grammar.specs.Expressions.{expression}
 use Rattle.asm_grammar.specs.Reader.{Reader, ◌>>=◌, ◌>>◌, pure, refuse, require, note, eat, expect, word, eat_word, number, sees, is_over, sees_offset, sees_base, eat_shift, eat_if, needed}
 
@@ -26,14 +22,9 @@ use Rattle.asm_grammar.specs.Reader.{Reader, ◌>>=◌, ◌>>◌, pure, refuse, 
 abbrev pub based : List ℕ → Bool → ℤ → Bool → List ℕ → Option Draft
 based name fixed off address base =
     if bytes_eq base (codes "SB") then Some (Symbol (record { name = name; fixed = fixed }) off address)
-    else (if bytes_eq base (codes "FP") && not fixed then Some (Plain (Arg (name_of name) off address))
-    else (if bytes_eq base (codes "SP") && not fixed then Some (Plain (Auto off address))
+    else (if bytes_eq base (codes "FP") && not fixed then Some (Arg name off address)
+    else (if bytes_eq base (codes "SP") && not fixed then Some (Auto off address)
     else None))
-
-abbrev pub IsBased : Option Draft → Result Draft Stop → Type 0
-IsBased draft (Ok value) = draft ≡ Some value
-IsBased draft (Err stops.Form) = draft ≡ None
-IsBased draft (Err stops.Memory) = Unit {0}
 
 -- `+e` or `-e`, where one of them is next
 unfoldable pub offset : Reader ℕ
@@ -54,7 +45,7 @@ unfoldable pub shifted : ℕ → List ℕ → Reader Draft
 shifted kind name = do
   amount ← expression
   require (nat_le amount 255)
-  pure (Plain (Shifted name kind amount))
+  pure (Shifted name kind amount)
 
 -- what begins with a name that has no `$` before it
 unfoldable pub behind_name : List ℕ → Reader Draft
@@ -82,7 +73,7 @@ constant = do
     require (bytes_eq base (codes "FP"))
     expect (codes ")")
     note NamelessArgument
-    pure (Plain (Imm value.1))) else pure (Plain (Imm value.1))
+    pure (Imm value.1)) else pure (Imm value.1)
 
 unfoldable pub width : Reader ℕ
 width = do
@@ -104,7 +95,7 @@ index = do
 unfoldable pub in_memory : ℤ → List ℕ → Reader Draft
 in_memory off base = do
   by ← index
-  pure (Plain (Mem off base by))
+  pure (Mem off base by)
 
 -- `e(FP)` is refused, and then means nothing
 unfoldable pub at_base : ℤ → List ℕ → Reader Draft
@@ -118,7 +109,7 @@ unfoldable pub pair : List ℕ → Reader Draft
 pair first = do
   second ← word
   expect (codes ")")
-  pure (Plain (Pair first second))
+  pure (Pair first second)
 
 unfoldable pub memory : Reader Draft
 memory = do

@@ -199,3 +199,9 @@ Finds reader old (Some value) new = (reader old ≡ Some (Some value, new)) × (
 abbrev pub Eats : Reader Bool → Reading → Bool → Reading → Type 0
 Eats reader old false new = (reader old ≡ Some (false, new)) × (new ≡ old)
 Eats reader old true new = (reader old ≡ Some (true, new)) × (length new.rest < length old.rest)
+
+-- what a call that reads nothing found
+abbrev pub IsFound : {A : Type 0} → Option A → Result A Stop → Type 0
+IsFound said (Ok value) = said ≡ Some value
+IsFound said (Err Form) = said ≡ None
+IsFound said (Err Memory) = Unit {0}

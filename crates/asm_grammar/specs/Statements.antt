@@ -14,6 +14,11 @@ use Rattle.asm_grammar.specs.Operands.{operand}
 use Rattle.asm_grammar.specs.Directives as directives
 use Rattle.asm_grammar.specs.Reader.{Reader, ◌>>=◌, ◌>>◌, pure, refuse, require, note_if, eat, word, sees, is_empty, eat_label, needed, going_on}
 
+-- a `TEXT` has sizes that a function can have
+abbrev pub HasSizes : Form → Type 0
+HasSizes (Text line) = directives.IsSized line
+HasSizes _ = Unit {0}
+
 abbrev pub with_label : List (List ℕ) → List ℕ → Reader (List (List ℕ))
 with_label before label = pure (before ++ label ∷ [])
 

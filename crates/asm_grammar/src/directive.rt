@@ -1,5 +1,5 @@
-ghost use Rattle.std.specs.Prelude.{◌≡◌, take, IfOk};
-ghost use Rattle.asm_grammar.specs.Reader.{Reads};
+ghost use Rattle.std.specs.Prelude.{◌≡◌, ◌<◌, ◌^◌, take, IfOk};
+ghost use Rattle.asm_grammar.specs.Reader.{Reads, IsFound};
 ghost use Rattle.asm_grammar.specs.Directives as spec;
 
 use crate::cause::Cause;
@@ -53,7 +53,8 @@ const NOFRAME: u32 = 512;
 /// Reads a `TEXT` behind its word.
 #[tactic(auto, unfolding(crate::specs::Directives::text))]
 pub fn read_text<'a>(reader: &mut Reader<'a>) -> Result<TextLine<'a>, Stop>
-    ensures { Reads spec.text reader.old result reader.new }
+    ensures read { Reads spec.text reader.old result reader.new }
+    ensures sized { IfOk result (λ line. spec.IsSized line) }
 {
     let symbol = read_symbol(reader)?;
     reader.expect(b",")?;
@@ -72,7 +73,8 @@ pub fn read_text<'a>(reader: &mut Reader<'a>) -> Result<TextLine<'a>, Stop>
 
 #[tactic(auto, unfolding(crate::specs::Directives::locals))]
 fn read_locals(reader: &mut Reader<'_>, flags: u32) -> Result<u32, Stop>
-    ensures { Reads (spec.locals flags) reader.old result reader.new }
+    ensures read { Reads (spec.locals flags) reader.old result reader.new }
+    ensures sized { IfOk result (λ locals. spec.AreLocals flags locals) }
 {
     let locals = read_size(reader)?;
     if locals % 8 != 0 || (locals != 0 && has(flags, NOFRAME)) {
@@ -83,7 +85,8 @@ fn read_locals(reader: &mut Reader<'_>, flags: u32) -> Result<u32, Stop>
 
 #[tactic(auto, unfolding(crate::specs::Directives::args))]
 fn read_args(reader: &mut Reader<'_>, flags: u32) -> Result<Option<u32>, Stop>
-    ensures { Reads (spec.args flags) reader.old result reader.new }
+    ensures read { Reads (spec.args flags) reader.old result reader.new }
+    ensures sized { IfOk result (λ args. spec.AreArguments args) }
 {
     if reader.eat(b"-") {
         let size = read_size(reader)?;
@@ -141,7 +144,7 @@ fn read_value<'a>(
 }
 
 fn text_value<'a>(alloc: Global, text: Word<'a>, width: u8) -> Result<DataValue<'a>, Stop>
-    ensures { spec.IsValue (spec.text_value text.entry width) result }
+    ensures { IsFound (spec.text_value text.entry width) result }
 {
     let bytes = bytes_of(alloc, text.as_slice())?;
     if bytes.as_slice().len() != width as usize {
@@ -261,7 +264,8 @@ fn read_flags(reader: &mut Reader<'_>) -> Result<u32, Stop>
 // A size in a `TEXT`: a single number below 2^31.
 #[tactic(auto, unfolding(crate::specs::Directives::size))]
 fn read_size(reader: &mut Reader<'_>) -> Result<u32, Stop>
-    ensures { Reads spec.size reader.old result reader.new }
+    ensures read { Reads spec.size reader.old result reader.new }
+    ensures small { IfOk result (λ size. size < 2 ^ 31) }
 {
     let size = reader.number()?;
     if size >= 0x8000_0000 {

@@ -1,36 +1,32 @@
-ghost use Rattle.std.specs.Prelude.{◌≡◌, IfOk};
-ghost use Rattle.asm_grammar.specs.Reader.{Reads, Takes, Finds};
+ghost use Rattle.asm_grammar.specs.Reader.{Reads, IsFound};
 ghost use Rattle.asm_grammar.specs.Operands as spec;
 
 use crate::cause::Cause;
 use crate::draft::{Draft, SymbolName};
 use crate::expression::read_expression;
-use crate::names::name_of;
 use crate::reader::Reader;
 use crate::stop::Stop;
 use crate::word::Word;
-use goasm_base::{Name, Operand};
-use std::alloc::Global;
 
 /// Reads an operand.
 #[tactic(auto, unfolding(crate::specs::Operands::operand))]
-pub fn read_operand<'a>(alloc: Global, reader: &mut Reader<'a>) -> Result<Draft<'a>, Stop>
+pub fn read_operand<'a>(reader: &mut Reader<'a>) -> Result<Draft<'a>, Stop>
     ensures { Reads spec.operand reader.old result reader.new }
 {
     let address = reader.eat(b"$");
     match reader.eat_word() {
         Some(name) => {
             if address {
-                named(alloc, reader, true, name)
+                named(reader, true, name)
             } else {
-                behind_name(alloc, reader, name)
+                behind_name(reader, name)
             }
         }
         None => {
             if address {
                 constant(reader)
             } else {
-                memory(alloc, reader)
+                memory(reader)
             }
         }
     }
@@ -39,7 +35,6 @@ pub fn read_operand<'a>(alloc: Global, reader: &mut Reader<'a>) -> Result<Draft<
 // What begins with a name that has no `$` before it.
 #[tactic(auto, unfolding(crate::specs::Operands::behind_name))]
 fn behind_name<'a>(
-    alloc: Global,
     reader: &mut Reader<'a>,
     name: Word<'a>,
 ) -> Result<Draft<'a>, Stop>
@@ -49,15 +44,14 @@ fn behind_name<'a>(
         return Ok(Draft::Bare(name));
     }
     match reader.eat_shift() {
-        Some(kind) => shifted(alloc, reader, kind, name),
-        None => named(alloc, reader, false, name),
+        Some(kind) => shifted(reader, kind, name),
+        None => named(reader, false, name),
     }
 }
 
 // `R<<n` and its kin, behind the sign.
 #[tactic(auto, unfolding(crate::specs::Operands::shifted))]
 fn shifted<'a>(
-    alloc: Global,
     reader: &mut Reader<'a>,
     kind: u8,
     name: Word<'a>,
@@ -68,17 +62,16 @@ fn shifted<'a>(
     if amount > 255 {
         return Err(Stop::Form);
     }
-    Ok(Draft::Plain(Operand::Shifted {
-        reg: name.owned(alloc)?,
+    Ok(Draft::Shifted {
+        reg: name,
         kind,
         amount: amount as u8,
-    }))
+    })
 }
 
 // `name+e(SB)` and its kin, behind the name.
 #[tactic(auto, unfolding(crate::specs::Operands::named))]
 fn named<'a>(
-    alloc: Global,
     reader: &mut Reader<'a>,
     address: bool,
     name: Word<'a>,
@@ -90,19 +83,18 @@ fn named<'a>(
     reader.expect(b"(")?;
     let base = reader.word()?;
     reader.expect(b")")?;
-    based(alloc, name, fixed, off, address, base)
+    based(name, fixed, off, address, base)
 }
 
 // What a name with an offset means behind this base.
 fn based<'a>(
-    alloc: Global,
     name: Word<'a>,
     fixed: bool,
     off: i64,
     address: bool,
     base: Word<'a>,
 ) -> Result<Draft<'a>, Stop>
-    ensures { spec.IsBased (spec.based name.entry fixed off address base.entry) result }
+    ensures { IsFound (spec.based name.entry fixed off address base.entry) result }
 {
     match base.as_slice() {
         b"SB" => Ok(Draft::Symbol {
@@ -110,12 +102,8 @@ fn based<'a>(
             off,
             address,
         }),
-        b"FP" if !fixed => Ok(Draft::Plain(Operand::Arg {
-            name: name_of(alloc, name.as_slice())?,
-            off,
-            address,
-        })),
-        b"SP" if !fixed => Ok(Draft::Plain(Operand::Auto { off, address })),
+        b"FP" if !fixed => Ok(Draft::Arg { name, off, address }),
+        b"SP" if !fixed => Ok(Draft::Auto { off, address }),
         _ => Err(Stop::Form),
     }
 }
@@ -146,7 +134,7 @@ fn constant<'a>(reader: &mut Reader<'a>) -> Result<Draft<'a>, Stop>
         reader.expect(b")")?;
         reader.note(Cause::NamelessArgument);
     }
-    Ok(Draft::Plain(Operand::Imm(value)))
+    Ok(Draft::Imm(value))
 }
 
 // The expression before a base, 0 where it is left out; and whether it is.
@@ -163,36 +151,32 @@ fn read_distance(reader: &mut Reader<'_>) -> Result<(bool, u64), Stop>
 
 // `e(R)` and what else begins neither with `$` nor with a name.
 #[tactic(auto, unfolding(crate::specs::Operands::memory))]
-fn memory<'a>(alloc: Global, reader: &mut Reader<'a>) -> Result<Draft<'a>, Stop>
+fn memory<'a>(reader: &mut Reader<'a>) -> Result<Draft<'a>, Stop>
     ensures { Reads spec.memory reader.old result reader.new }
 {
     let (omitted, value) = read_distance(reader)?;
     reader.expect(b"(")?;
     let base = reader.word()?;
     if omitted && reader.eat(b",") {
-        return pair(alloc, reader, base);
+        return pair(reader, base);
     }
     reader.expect(b")")?;
-    at_base(alloc, reader, value.cast_signed(), base)
+    at_base(reader, value.cast_signed(), base)
 }
 
 // `(R1, R2)` behind its comma.
 #[tactic(auto, unfolding(crate::specs::Operands::pair))]
-fn pair<'a>(alloc: Global, reader: &mut Reader<'a>, first: Word<'a>) -> Result<Draft<'a>, Stop>
+fn pair<'a>(reader: &mut Reader<'a>, first: Word<'a>) -> Result<Draft<'a>, Stop>
     ensures { Reads (spec.pair first.entry) reader.old result reader.new }
 {
     let second = reader.word()?;
     reader.expect(b")")?;
-    Ok(Draft::Plain(Operand::Pair(
-        first.owned(alloc)?,
-        second.owned(alloc)?,
-    )))
+    Ok(Draft::Pair(first, second))
 }
 
 // What an offset means behind this base.
 #[tactic(auto, unfolding(crate::specs::Operands::at_base))]
 fn at_base<'a>(
-    alloc: Global,
     reader: &mut Reader<'a>,
     off: i64,
     base: Word<'a>,
@@ -206,30 +190,25 @@ fn at_base<'a>(
             Ok(Draft::Away(off))
         }
         b"SB" => Err(Stop::Form),
-        _ => in_memory(alloc, reader, off, base),
+        _ => in_memory(reader, off, base),
     }
 }
 
 #[tactic(auto, unfolding(crate::specs::Operands::in_memory))]
 fn in_memory<'a>(
-    alloc: Global,
     reader: &mut Reader<'a>,
     off: i64,
     base: Word<'a>,
 ) -> Result<Draft<'a>, Stop>
     ensures { Reads (spec.in_memory off base.entry) reader.old result reader.new }
 {
-    let index = read_index(alloc, reader)?;
-    Ok(Draft::Plain(Operand::Mem {
-        off,
-        base: base.owned(alloc)?,
-        index,
-    }))
+    let index = read_index(reader)?;
+    Ok(Draft::Mem { off, base, index })
 }
 
 // `(I*s)` behind a base, where it stands there.
 #[tactic(auto, unfolding(crate::specs::Operands::index))]
-fn read_index(alloc: Global, reader: &mut Reader<'_>) -> Result<Option<(Name, u8)>, Stop>
+fn read_index<'a>(reader: &mut Reader<'a>) -> Result<Option<(Word<'a>, u8)>, Stop>
     ensures { Reads spec.index reader.old result reader.new }
 {
     if !reader.eat(b"(") {
@@ -239,7 +218,7 @@ fn read_index(alloc: Global, reader: &mut Reader<'_>) -> Result<Option<(Name, u8
     reader.expect(b"*")?;
     let scale = read_width(reader)?;
     reader.expect(b")")?;
-    Ok(Some((name.owned(alloc)?, scale)))
+    Ok(Some((name, scale)))
 }
 
 /// Reads a number that is 1, 2, 4 or 8.

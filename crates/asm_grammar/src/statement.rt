@@ -1,4 +1,4 @@
-ghost use Rattle.std.specs.Prelude.{◌≡◌};
+ghost use Rattle.std.specs.Prelude.{◌≡◌, IfOk};
 ghost use Rattle.asm_grammar.specs.Reader.{Reads};
 ghost use Rattle.asm_grammar.specs.Statements as spec;
 
@@ -9,7 +9,7 @@ use crate::operand::read_operand;
 use crate::reader::Reader;
 use crate::stop::Stop;
 use crate::word::Word;
-use goasm_base::{List, Name};
+use goasm_base::List;
 use std::alloc::Global;
 
 /// A statement of the source.
@@ -35,7 +35,7 @@ pub enum Form<'a> {
 /// A mnemonic with its operands.
 #[derive(Drop)]
 pub struct CodeLine<'a> {
-    pub op: Name,
+    pub op: Word<'a>,
     /// The letter behind the mnemonic's `.`.
     pub suffix: Option<u8>,
     pub operands: List<Draft<'a>>,
@@ -44,7 +44,8 @@ pub struct CodeLine<'a> {
 /// Reads a statement, all of it.
 #[tactic(auto, unfolding(crate::specs::Statements::statement))]
 pub fn read_statement<'a>(alloc: Global, reader: &mut Reader<'a>) -> Result<Statement<'a>, Stop>
-    ensures { Reads spec.statement reader.old result reader.new }
+    ensures read { Reads spec.statement reader.old result reader.new }
+    ensures sized { IfOk result (λ statement. spec.HasSizes statement.form) }
 {
     let labels = read_labels(alloc, reader)?;
     let form = read_form(alloc, reader)?;
@@ -67,7 +68,8 @@ fn read_labels<'a>(alloc: Global, reader: &mut Reader<'a>) -> Result<List<Word<'
 
 #[tactic(auto, unfolding(crate::specs::Statements::form))]
 fn read_form<'a>(alloc: Global, reader: &mut Reader<'a>) -> Result<Form<'a>, Stop>
-    ensures { Reads spec.form reader.old result reader.new }
+    ensures read { Reads spec.form reader.old result reader.new }
+    ensures sized { IfOk result (λ form. spec.HasSizes form) }
 {
     if reader.is_ended() {
         return Ok(Form::Empty);
@@ -88,7 +90,8 @@ fn read_code<'a>(
     reader: &mut Reader<'a>,
     op: Word<'a>,
 ) -> Result<Form<'a>, Stop>
-    ensures { Reads (spec.code op.entry) reader.old result reader.new }
+    ensures read { Reads (spec.code op.entry) reader.old result reader.new }
+    ensures sized { IfOk result (λ form. spec.HasSizes form) }
 {
     let suffix = read_suffix(reader)?;
     let operands = read_operands(alloc, reader)?;
@@ -96,7 +99,7 @@ fn read_code<'a>(
         reader.note(Cause::RawCode);
     }
     Ok(Form::Code(CodeLine {
-        op: op.owned(alloc)?,
+        op,
         suffix,
         operands,
     }))
@@ -134,10 +137,10 @@ fn read_operands<'a>(
     if reader.is_ended() {
         return Ok(List::new(operands));
     }
-    let first = read_operand(alloc, reader)?;
+    let first = read_operand(reader)?;
     operands.push(first)?;
     'operands: while reader.eat(b",") {
-        let next = read_operand(alloc, reader)?;
+        let next = read_operand(reader)?;
         operands.push(next)?;
     }
     Ok(List::new(operands))
