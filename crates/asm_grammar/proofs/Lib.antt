@@ -1,0 +1,4 @@
+pub mod Repeats
+pub mod Operations
+pub mod TextLemmas
+pub mod Listed

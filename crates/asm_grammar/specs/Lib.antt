@@ -1,0 +1,10 @@
+pub mod Causes
+pub mod Tokens
+pub mod Operators
+pub mod Reader
+pub mod Expressions
+pub mod Names
+pub mod Operands
+pub mod Texts
+pub mod Directives
+pub mod Statements

@@ -1,0 +1,5 @@
+pub mod Loops
+pub mod NumberingLemmas
+pub mod AheadLemmas
+pub mod LabelLemmas
+pub mod ReadLemmas

@@ -1,0 +1,12 @@
+use Rattle.std.proofs.Common.{◌≡◌, ℕ, Bool, List, drop}
+use Rattle.asm_parse.specs.Words.{Tells}
+use Rattle.asm_parse.specs.Ahead.{seen, outlooks_back}
+use Rattle.asm_parse.specs.Steps.{steps}
+use Rattle.asm_parse.proofs.parser.read_into.Given as goal
+
+abbrev pub invariant-loop-statement : goal.invariant-loop-statement
+invariant-loop-statement g l = record {
+  ahead : l.outlooks.items ≡ outlooks_back (drop l.statement-index (seen l.statements));
+  read : (word : List ℕ → Bool) → Tells (λ name answer. g.W.Fn.post l.is_word (name, tt) answer) word
+      → steps word l.progress (drop l.statement-index (seen l.statements)) ≡ steps word l.fn.progress (seen l.statements);
+}

@@ -1,0 +1,9 @@
+pub mod Refusals
+pub mod Numbering
+pub mod Ahead
+pub mod Lines
+pub mod Words
+pub mod Progress
+pub mod Steps
+pub mod Resolve
+pub mod Parse

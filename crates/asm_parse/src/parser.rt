@@ -1,0 +1,79 @@
+ghost use Rattle.std.specs.Prelude.{◌≡◌, ◌≤◌, List, ℕ, Bool, length, IfOk};
+ghost use Rattle.asm_parse.specs.Refusals.{Gives, Moves};
+ghost use Rattle.asm_parse.specs.Steps.{steps};
+ghost use Rattle.asm_parse.specs.Ahead.{seen};
+ghost use Rattle.asm_parse.specs.Parse as spec;
+ghost use Rattle.asm_parse.specs.Words.{IsAskable, Tells};
+
+use crate::ahead::{Opening, Outlook, outlooks};
+use crate::parse_no::ParseNo;
+use crate::progress::Progress;
+use crate::step::step;
+use crate::unit::Unit;
+use asm_lex::{Kind, Token, Tokens};
+use std::alloc::{AllocError, Global};
+
+const NOTHING_AHEAD: Outlook = Outlook {
+    here: Opening::Text,
+    behind: Opening::Text,
+};
+
+/// The unit that a source's tokens say, under these words of the target.
+pub fn parse<W: Fn(&[u8]) -> bool>(
+    alloc: Global,
+    tokens: &Tokens,
+    is_word: W,
+) -> Result<Unit, ParseNo>
+    requires askable { IsAskable (W.pre is_word) }
+    requires few { length tokens.now.list ≤ 4_000_000 }
+    ensures exact { (word : List ℕ → Bool) → Tells (W.post is_word) word → Gives (spec.parsed word tokens.now.list) result }
+{
+    let statements = statements_in(alloc, tokens.list.as_slice())?;
+    let progress = read_all(alloc, statements.as_slice(), &is_word)?;
+    progress.resolved(alloc, &is_word)
+}
+
+fn statements_in<'a>(alloc: Global, tokens: &'a [Token]) -> Result<Vec<&'a [Token]>, AllocError>
+    ensures { IfOk result (λ all. seen all.items ≡ spec.statements_of tokens.now) }
+{
+    tokens.split(|token| is_end(token)).collect(alloc)
+}
+
+fn is_end(token: &Token) -> bool
+    ensures { result ≡ spec.is_end token.now }
+{
+    matches!(token.kind, Kind::End)
+}
+
+#[tactic(auto, unfolding(crate::specs::Parse::read_of))]
+fn read_all<'a, W: Fn(&[u8]) -> bool>(
+    alloc: Global,
+    statements: &[&'a [Token]],
+    is_word: &W,
+) -> Result<Progress<'a>, ParseNo>
+    requires { IsAskable (W.pre is_word.now) }
+    ensures { (word : List ℕ → Bool) → Tells (W.post is_word.now) word → Gives (spec.read_of word (seen statements.now)) result }
+{
+    let mut progress = Progress::new(alloc);
+    read_into(alloc, &mut progress, statements, is_word)?;
+    progress.end()?;
+    Ok(progress)
+}
+
+// Reads and keeps statements in their order, up to the first that is refused.
+fn read_into<'a, W: Fn(&[u8]) -> bool>(
+    alloc: Global,
+    progress: &mut Progress<'a>,
+    statements: &[&'a [Token]],
+    is_word: &W,
+) -> Result<(), ParseNo>
+    requires { IsAskable (W.pre is_word.now) }
+    ensures { (word : List ℕ → Bool) → Tells (W.post is_word.now) word → Moves (steps word progress.old (seen statements.now)) result progress.new }
+{
+    let mut outlooks = outlooks(alloc, statements)?;
+    for statement in statements {
+        let outlook = outlooks.pop().unwrap_or(NOTHING_AHEAD);
+        step(alloc, progress, outlook, statement, is_word)?;
+    }
+    Ok(())
+}

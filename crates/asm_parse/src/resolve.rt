@@ -1,0 +1,307 @@
+ghost use Rattle.std.specs.Prelude.{◌≡◌, List, ℕ, Bool, IfOk};
+ghost use Rattle.asm_parse.specs.Refusals.{Gives, traversed};
+ghost use Rattle.asm_parse.specs.Resolve as spec;
+ghost use Rattle.asm_parse.specs.Words.{IsAskable, Tells};
+
+use crate::lines::{Body, Line, is_aside};
+use crate::numbering::Numbering;
+use crate::parse_no::ParseNo;
+use crate::progress::unprefixed;
+use asm_grammar::{Draft, SymbolName, Word, name_of};
+use goasm_base::{Function, List as Items, Memory, Name, Operand, Pos, Stmt};
+use std::alloc::Global;
+
+/// A function with its names resolved, or the first of its statements in which one names nothing.
+#[tactic(auto, unfolding(crate::specs::Resolve::function_of))]
+pub fn function_of<W: Fn(&[u8]) -> bool>(
+    alloc: Global,
+    symbols: &Numbering<'_>,
+    is_word: &W,
+    body: &Body<'_>,
+) -> Result<Function, ParseNo>
+    requires { IsAskable (W.pre is_word.now) }
+    ensures { (word : List ℕ → Bool) → Tells (W.post is_word.now) word → Gives (spec.function_of word symbols.now body.now) result }
+{
+    let sym = named_symbol(symbols, body.pos, &body.head.symbol)?;
+    let stmts = statements_of(alloc, symbols, is_word, body, body.lines.as_slice())?;
+    Ok(Function {
+        sym,
+        flags: body.head.flags,
+        locals: body.head.locals,
+        args: body.head.args,
+        pos: body.pos,
+        stmts,
+    })
+}
+
+fn statements_of<W: Fn(&[u8]) -> bool>(
+    alloc: Global,
+    symbols: &Numbering<'_>,
+    is_word: &W,
+    body: &Body<'_>,
+    lines: &[Line<'_>],
+) -> Result<Items<Stmt>, ParseNo>
+    requires { IsAskable (W.pre is_word.now) }
+    ensures { (word : List ℕ → Bool) → Tells (W.post is_word.now) word → Gives (traversed (spec.statement_of word symbols.now body.now) lines.now) result }
+{
+    let mut stmts = Vec::new(alloc);
+    for line in lines {
+        let stmt = statement_of(alloc, symbols, is_word, body, line)?;
+        stmts.push(stmt)?;
+    }
+    Ok(Items::new(stmts))
+}
+
+#[tactic(auto, unfolding(crate::specs::Resolve::statement_of))]
+fn statement_of<W: Fn(&[u8]) -> bool>(
+    alloc: Global,
+    symbols: &Numbering<'_>,
+    is_word: &W,
+    body: &Body<'_>,
+    line: &Line<'_>,
+) -> Result<Stmt, ParseNo>
+    requires { IsAskable (W.pre is_word.now) }
+    ensures { (word : List ℕ → Bool) → Tells (W.post is_word.now) word → Gives (spec.statement_of word symbols.now body.now line.now) result }
+{
+    let drafts = line.code.operands.as_slice();
+    if has_unknown(symbols, is_word, body, drafts) {
+        return Err(ParseNo::P3(line.pos));
+    }
+    let operands = operands_of(alloc, symbols, is_word, body, line, drafts)?;
+    Ok(Stmt {
+        pos: line.pos,
+        lock: line.lock,
+        op: line.code.op.owned(alloc)?,
+        suffix: line.code.suffix,
+        operands,
+    })
+}
+
+fn operands_of<W: Fn(&[u8]) -> bool>(
+    alloc: Global,
+    symbols: &Numbering<'_>,
+    is_word: &W,
+    body: &Body<'_>,
+    line: &Line<'_>,
+    drafts: &[Draft<'_>],
+) -> Result<Items<Operand>, ParseNo>
+    requires { IsAskable (W.pre is_word.now) }
+    ensures { (word : List ℕ → Bool) → Tells (W.post is_word.now) word → Gives (traversed (spec.operand_of word symbols.now body.now line.now) drafts.now) result }
+{
+    let mut operands = Vec::new(alloc);
+    for draft in drafts {
+        let operand = operand_of(alloc, symbols, is_word, body, line, draft)?;
+        operands.push(operand)?;
+    }
+    Ok(Items::new(operands))
+}
+
+// Whether one of the operands names nothing.
+fn has_unknown<W: Fn(&[u8]) -> bool>(
+    symbols: &Numbering<'_>,
+    is_word: &W,
+    body: &Body<'_>,
+    drafts: &[Draft<'_>],
+) -> bool
+    requires { IsAskable (W.pre is_word.now) }
+    ensures { (word : List ℕ → Bool) → Tells (W.post is_word.now) word → result ≡ spec.has_unknown word symbols.now body.now drafts.now }
+{
+    for draft in drafts {
+        if is_unknown(symbols, is_word, body, draft) {
+            return true;
+        }
+    }
+    false
+}
+
+fn is_unknown<W: Fn(&[u8]) -> bool>(
+    symbols: &Numbering<'_>,
+    is_word: &W,
+    body: &Body<'_>,
+    draft: &Draft<'_>,
+) -> bool
+    requires { IsAskable (W.pre is_word.now) }
+    ensures { (word : List ℕ → Bool) → Tells (W.post is_word.now) word → result ≡ spec.is_unknown word symbols.now body.now draft.now }
+{
+    match draft {
+        Draft::Bare(name) => !is_word(name.as_slice()) && goal_of(body, name).is_none(),
+        Draft::Symbol { symbol, off: _, address: _ } => number_of(symbols, symbol).is_none(),
+        _ => false,
+    }
+}
+
+fn operand_of<W: Fn(&[u8]) -> bool>(
+    alloc: Global,
+    symbols: &Numbering<'_>,
+    is_word: &W,
+    body: &Body<'_>,
+    line: &Line<'_>,
+    draft: &Draft<'_>,
+) -> Result<Operand, ParseNo>
+    requires { IsAskable (W.pre is_word.now) }
+    ensures { (word : List ℕ → Bool) → Tells (W.post is_word.now) word → Gives (spec.operand_of word symbols.now body.now line.now draft.now) result }
+{
+    match draft {
+        Draft::Imm(value) => Ok(Operand::Imm(*value)),
+        Draft::Bare(name) => bare(alloc, is_word, body, line.pos, name),
+        Draft::Mem { off, base, index } => Ok(Operand::Mem {
+            off: *off,
+            base: base.owned(alloc)?,
+            index: owned_index(alloc, index)?,
+        }),
+        Draft::Symbol {
+            symbol,
+            off,
+            address,
+        } => Ok(Operand::Sym {
+            sym: named_symbol(symbols, line.pos, symbol)?,
+            off: *off,
+            address: *address,
+        }),
+        Draft::Arg { name, off, address } => Ok(Operand::Arg {
+            name: name_of(alloc, name.as_slice())?,
+            off: *off,
+            address: *address,
+        }),
+        Draft::Auto { off, address } => Ok(Operand::Auto {
+            off: *off,
+            address: *address,
+        }),
+        Draft::Away(away) => match reached(body, line, *away) {
+            Some(statement) => Ok(Operand::Label(statement)),
+            None => Err(ParseNo::P8(line.pos)),
+        },
+        Draft::Pair(first, second) => Ok(Operand::Pair(
+            first.owned(alloc)?,
+            second.owned(alloc)?,
+        )),
+        Draft::Shifted { reg, kind, amount } => Ok(Operand::Shifted {
+            reg: reg.owned(alloc)?,
+            kind: *kind,
+            amount: *amount,
+        }),
+    }
+}
+
+// A bare name is a word of the target, also where a label has it.
+fn bare<W: Fn(&[u8]) -> bool>(
+    alloc: Global,
+    is_word: &W,
+    body: &Body<'_>,
+    pos: Pos,
+    name: &Word<'_>,
+) -> Result<Operand, ParseNo>
+    requires { IsAskable (W.pre is_word.now) }
+    ensures { (word : List ℕ → Bool) → Tells (W.post is_word.now) word → Gives (spec.bare word body.now pos name.now) result }
+{
+    if is_word(name.as_slice()) {
+        return Ok(Operand::Word(name.owned(alloc)?));
+    }
+    match goal_of(body, name) {
+        Some(statement) => Ok(Operand::Label(statement)),
+        None => Err(ParseNo::P3(pos)),
+    }
+}
+
+fn owned_index(
+    alloc: Global,
+    index: &Option<(Word<'_>, u8)>,
+) -> Result<Option<(Name, u8)>, Memory>
+    ensures { IfOk result (λ owned. owned ≡ index.now) }
+{
+    match index {
+        None => Ok(None),
+        Some((name, scale)) => Ok(Some((name.owned(alloc)?, *scale))),
+    }
+}
+
+/// The number of a symbol.
+pub fn named_symbol(
+    symbols: &Numbering<'_>,
+    pos: Pos,
+    symbol: &SymbolName<'_>,
+) -> Result<u32, ParseNo>
+    ensures { Gives (spec.named_symbol symbols.now pos symbol.now) result }
+{
+    match number_of(symbols, symbol) {
+        Some(number) => Ok(number),
+        None => Err(ParseNo::P3(pos)),
+    }
+}
+
+fn number_of(symbols: &Numbering<'_>, symbol: &SymbolName<'_>) -> Option<u32>
+    ensures { result ≡ spec.symbol_number symbols.now symbol.now }
+{
+    match symbols.number(unprefixed(symbol.name.as_slice()), symbol.fixed) {
+        Some(number) => short(number),
+        None => None,
+    }
+}
+
+// The statement before which a label of the function stands.
+fn goal_of(body: &Body<'_>, name: &Word<'_>) -> Option<u32>
+    ensures { result ≡ spec.goal_of body.now name.now }
+{
+    match body.labels.number(name.as_slice(), false) {
+        Some(number) => statement_at(body, body.goals.as_slice().get(number).copied()),
+        None => None,
+    }
+}
+
+// A statement of the function, where there is one with this number.
+fn statement_at(body: &Body<'_>, index: Option<usize>) -> Option<u32>
+    ensures { result ≡ spec.statement_at body.now index }
+{
+    match index {
+        Some(index) if index < body.lines.as_slice().len() => short(index),
+        _ => None,
+    }
+}
+
+fn short(number: usize) -> Option<u32>
+    ensures { result ≡ spec.short number }
+{
+    if number <= u32::MAX as usize {
+        Some(number as u32)
+    } else {
+        None
+    }
+}
+
+// The statement so many source instructions away.
+fn reached(body: &Body<'_>, line: &Line<'_>, away: i64) -> Option<u32>
+    ensures { result ≡ spec.reached body.now line.now away }
+{
+    if away.unsigned_abs() == 0 {
+        if line.lock {
+            return None;
+        }
+        return statement_at(body, Some(line.index));
+    }
+    if is_aside(line.code.op.as_slice()) {
+        return None;
+    }
+    statement_at(body, goal_away(body, line.place, away))
+}
+
+// The statement that begins so many places away, where no PCDATA and no FUNCDATA stands between.
+fn goal_away(body: &Body<'_>, place: usize, away: i64) -> Option<usize>
+    ensures { result ≡ spec.goal_away body.now place away }
+{
+    let slots = body.slots.as_slice();
+    match (slots.get(place), slots.get(target(place, away)?)) {
+        (Some(own), Some(other)) if own.start == other.start => other.goal,
+        _ => None,
+    }
+}
+
+fn target(place: usize, away: i64) -> Option<usize>
+    ensures { result ≡ spec.target place away }
+{
+    let distance = away.unsigned_abs() as usize;
+    if away < 0 {
+        place.checked_sub(distance)
+    } else {
+        place.checked_add(distance)
+    }
+}
