@@ -1,10 +1,10 @@
 -- One turn of the loops over labels and operands.
-use Rattle.std.proofs.Common.{◌≡◌, ℕ, Bool, true, false, ◌∷◌, [], ◌++◌, List, Option, Some, None, refl}
+use Rattle.std.proofs.Common.{◌≡◌, true, false, ◌∷◌, [], ◌++◌, List, Some, None, refl}
 use Rattle.std.specs.Prelude.{codes}
 use Rattle.asm_grammar.specs.declared.draft.Draft.{Draft}
 use Rattle.asm_grammar.specs.declared.stop.Stop.{Stop}
 use Rattle.asm_grammar.specs.declared.stop.Stop.TheVariants.{Form, Memory}
-use Rattle.asm_grammar.specs.Reader.{Reading, Reader, ◌>>=◌, and_then, eat, Stops}
+use Rattle.asm_grammar.specs.Reader.{Reading, eat, Stops}
 use Rattle.asm_grammar.specs.Operands.{operand}
 use Rattle.asm_grammar.specs.Statements.{separator, with_operand}
 

@@ -1,10 +1,10 @@
 -- One turn of the loops over operators.
-use Rattle.std.proofs.Common.{◌≡◌, ℕ, Option, Some, None, refl}
+use Rattle.std.proofs.Common.{◌≡◌, ℕ, Some, refl}
 use Rattle.asm_grammar.specs.declared.stop.Stop.{Stop}
 use Rattle.asm_grammar.specs.declared.stop.Stop.TheVariants.{Form, Memory}
 use Rattle.asm_grammar.specs.declared.operator.Operator.{Operator}
 use Rattle.asm_grammar.specs.Operators.{applied}
-use Rattle.asm_grammar.specs.Reader.{Reading, Reader, ◌>>=◌, and_then, Stops}
+use Rattle.asm_grammar.specs.Reader.{Reading, Reader, Stops}
 use Rattle.asm_grammar.specs.Expressions.{operation, or_noted}
 
 pub operated : (operand : Reader ℕ) (left right value : ℕ) (operator : Operator) (at then after : Reading)

@@ -1,8 +1,8 @@
 -- Reading one part after the other, as a loop does.
-use Rattle.std.proofs.Common.{◌≡◌, ℕ, zero, suc, ◌+◌, ◌<◌, ◌≤◌, List, length, Option, Some, None, refl, sym, ap, ◌∙◌, arith}
+use Rattle.std.proofs.Common.{◌≡◌, ℕ, zero, suc, ◌<◌, ◌≤◌, length, Option, Some, None, sym, ap, ◌∙◌, arith}
 use Rattle.asm_grammar.specs.declared.stop.Stop.{Stop}
 use Rattle.asm_grammar.specs.declared.stop.Stop.TheVariants.{Form, Memory}
-use Rattle.asm_grammar.specs.Reader.{Reading, Reader, ◌>>=◌, and_then, repeated, going_on, Stops}
+use Rattle.asm_grammar.specs.Reader.{Reading, Reader, repeated, going_on, Stops}
 
 -- what a loop still has to read gives what it was to read from the start
 pub record IsRest {A B : Type 0} (begins : Reader (Option B)) (goes : A → B → Reader A) (whole : Option (A × Reading)) (part : A) (at : Reading) : Type 0 where

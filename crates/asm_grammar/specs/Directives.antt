@@ -3,7 +3,7 @@
 --     TEXT   symbol "," flags "," "$" size [ "-" size ]
 --     DATA   symbol with an offset "/" width "," "$" (text | address | expression)
 --     GLOBL  symbol "," [ flags "," ] "$" expression
-use Rattle.std.specs.Prelude.{◌≡◌, ◌<◌, IfSome, ℕ, ◌%◌, ◌^◌, ◌-◌, Bool, true, false, not, ◌==◌, ◌&&◌, ◌||◌, nat_lt, bit_and, bytes_eq, codes, List, length, take, Option, Some, None, Result, Ok, Err, is_some, if◌then◌else◌}
+use Rattle.std.specs.Prelude.{◌≡◌, ◌<◌, IfSome, ℕ, ◌%◌, ◌^◌, Bool, true, not, ◌==◌, ◌&&◌, ◌||◌, nat_lt, bit_and, bytes_eq, codes, List, length, take, Option, Some, None, if◌then◌else◌}
 use Rattle.std.specs.Int.{w64, cast_signed, to_le_bytes}
 use Rattle.asm_grammar.specs.declared.cause.Cause.TheVariants.{ArgumentSizeMissing}
 use Rattle.asm_grammar.specs.declared.draft.SymbolName.{SymbolName}
@@ -15,7 +15,7 @@ use Rattle.asm_grammar.specs.declared.directive.GlobalLine.{GlobalLine}
 use Rattle.asm_grammar.specs.Expressions.{expression}
 use Rattle.asm_grammar.specs.Operands.{offset, width}
 use Rattle.asm_grammar.specs.Texts.{bytes_of}
-use Rattle.asm_grammar.specs.Reader.{Reader, ◌>>=◌, ◌>>◌, pure, refuse, require, note_if, eat, expect, word, eat_text, number, sees, sees_word, needed}
+use Rattle.asm_grammar.specs.Reader.{Reader, ◌>>=◌, ◌>>◌, pure, require, note_if, eat, expect, word, eat_text, number, sees, sees_word, needed}
 
 -- Go's textflag.h
 abbrev pub nosplit : ℕ
@@ -122,10 +122,10 @@ data_value count = do
   elim written [
     | Some found ↦ needed (text_value found count)
     | None ↦ (do
-        named ← sees sees_word
-        if named then address_value count else (do
-          value ← expression
-          pure (Bytes (low_bytes count value))))
+      named ← sees sees_word
+      if named then address_value count else (do
+        value ← expression
+        pure (Bytes (low_bytes count value))))
   ]
 
 unfoldable pub value : Reader DataLine

@@ -4,7 +4,7 @@
 --     product  factor { ("*" | "/" | "%" | "<<" | ">>" | "&") factor }
 --     factor   { "+" | "-" | "~" } primary
 --     primary  number | "(" sum ")"
-use Rattle.std.specs.Prelude.{ℕ, zero, suc, Bool, false, List, map, reverse, fold, take, drop, codes, Option, Some, None, if◌then◌else◌}
+use Rattle.std.specs.Prelude.{ℕ, zero, suc, Bool, false, List, reverse, fold, take, drop, codes, Option, Some, None, if◌then◌else◌}
 use Rattle.std.specs.List.{prefix_len}
 use Rattle.asm_lex.specs.declared.token.Token.{Token}
 use Rattle.asm_grammar.specs.declared.cause.Cause.TheVariants.{ZeroDivisor}
@@ -13,7 +13,7 @@ use Rattle.asm_grammar.specs.declared.operator.Group.{Group}
 use Rattle.asm_grammar.specs.declared.operator.Group.TheVariants.{Sum, Product}
 use Rattle.asm_grammar.specs.Operators.{applied, prefixed, is_prefix}
 use Rattle.asm_grammar.specs.Tokens.{sign_of}
-use Rattle.asm_grammar.specs.Reader.{Reading, Reader, ◌>>=◌, ◌>>◌, pure, refuse, note, eat, expect, number, eat_operator, going_on, behind}
+use Rattle.asm_grammar.specs.Reader.{Reader, ◌>>=◌, ◌>>◌, pure, refuse, note, eat, expect, number, eat_operator, going_on, behind}
 
 -- the value, or any where a divisor is 0
 abbrev pub or_noted : Option ℕ → Reader ℕ

@@ -1,6 +1,6 @@
 -- The name that a word of the source stands for: in it U+00B7 is `.` and U+2215 is `/`, and a name that then begins with
 -- `.` is one of the package `main`.
-use Rattle.std.specs.Prelude.{ℕ, Bool, List, [], ◌++◌, ◌==◌, ◌&&◌, ◌||◌, codes, filter_map, slice_index, length, nat_le, Option, Some, None, if◌then◌else◌}
+use Rattle.std.specs.Prelude.{ℕ, Bool, List, [], ◌++◌, ◌==◌, ◌&&◌, ◌||◌, codes, filter_map, slice_index, Option, Some, None, if◌then◌else◌}
 
 -- The only characters of a word outside ASCII are U+00B7, whose bytes are C2 and B7, and U+2215, whose bytes are E2, 88
 -- and 95: the last one stands for the whole character.

@@ -9,9 +9,8 @@
 --     e(PC)                       the statement so many source instructions away
 --     e(R)  e(R)(R*s)             memory, s one of 1, 2, 4 and 8
 --     (R, R)                      a pair
-use Rattle.std.specs.Prelude.{◌≡◌, ℕ, ℤ, Bool, true, false, not, ◌==◌, ◌&&◌, ◌||◌, nat_le, bytes_eq, codes, List, [], ◌∷◌, Option, Some, None, Result, Ok, Err, if◌then◌else◌}
+use Rattle.std.specs.Prelude.{ℕ, ℤ, Bool, true, false, not, ◌==◌, ◌&&◌, ◌||◌, nat_le, bytes_eq, codes, List, Option, Some, None, if◌then◌else◌}
 use Rattle.std.specs.Int.{w64, cast_signed}
-use Rattle.asm_lex.specs.declared.token.Token.{Token}
 use Rattle.asm_grammar.specs.declared.cause.Cause.TheVariants.{NamelessArgument}
 use Rattle.asm_grammar.specs.declared.draft.Draft.{Draft}
 use Rattle.asm_grammar.specs.declared.draft.Draft.TheVariants.{Imm, Bare, Mem, Symbol, Arg, Auto, Away, Pair, Shifted}
@@ -53,7 +52,7 @@ behind_name name = do
   over ← sees is_over
   if over then pure (Bare name) else (do
     shift ← eat_shift
-    elim shift [ | Some kind ↦ shifted kind name | None ↦ named false name ])
+    elim shift [ Some kind ↦ shifted kind name | None ↦ named false name ])
 
 -- an expression before a base, and whether it is left out
 unfoldable pub distance : Reader (Bool × ℕ)

@@ -2,9 +2,8 @@
 --
 --     statement  { word ":" } [ directive | "LOCK" | code ]
 --     code       mnemonic [ "." letter ] [ operand { "," operand } ]
-use Rattle.std.specs.Prelude.{ℕ, Bool, true, false, ◌==◌, ◌&&◌, ◌||◌, bytes_eq, codes, List, [], ◌∷◌, ◌++◌, length, slice_index, Option, Some, None, if◌then◌else◌}
+use Rattle.std.specs.Prelude.{ℕ, Bool, ◌==◌, ◌&&◌, ◌||◌, bytes_eq, codes, List, [], ◌∷◌, ◌++◌, length, slice_index, Option, Some, None, if◌then◌else◌}
 use Rattle.goasm_base.specs.Ascii.{is_ascii_alphabetic}
-use Rattle.asm_lex.specs.declared.token.Token.{Token}
 use Rattle.asm_grammar.specs.declared.cause.Cause.TheVariants.{RawCode}
 use Rattle.asm_grammar.specs.declared.draft.Draft.{Draft}
 use Rattle.asm_grammar.specs.declared.statement.Statement.{Statement}
@@ -12,7 +11,7 @@ use Rattle.asm_grammar.specs.declared.statement.Form.{Form}
 use Rattle.asm_grammar.specs.declared.statement.Form.TheVariants.{Empty, Lock, Text, Data, Global, Code}
 use Rattle.asm_grammar.specs.Operands.{operand}
 use Rattle.asm_grammar.specs.Directives as directives
-use Rattle.asm_grammar.specs.Reader.{Reader, ◌>>=◌, ◌>>◌, pure, refuse, require, note_if, eat, word, sees, is_empty, eat_label, needed, going_on}
+use Rattle.asm_grammar.specs.Reader.{Reader, ◌>>=◌, ◌>>◌, pure, require, note_if, eat, word, sees, is_empty, eat_label, needed, going_on}
 
 -- a `TEXT` has sizes that a function can have
 abbrev pub HasSizes : Form → Type 0

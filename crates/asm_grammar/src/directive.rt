@@ -48,6 +48,7 @@ pub struct GlobalLine<'a> {
 }
 
 const NOSPLIT: u32 = 4;
+
 const NOFRAME: u32 = 512;
 
 /// Reads a `TEXT` behind its word.
@@ -126,11 +127,7 @@ pub fn read_data<'a>(alloc: Global, reader: &mut Reader<'a>) -> Result<DataLine<
 }
 
 #[tactic(auto, unfolding(crate::specs::Directives::data_value))]
-fn read_value<'a>(
-    alloc: Global,
-    reader: &mut Reader<'a>,
-    width: u8,
-) -> Result<DataValue<'a>, Stop>
+fn read_value<'a>(alloc: Global, reader: &mut Reader<'a>, width: u8) -> Result<DataValue<'a>, Stop>
     ensures { Reads (spec.data_value width) reader.old result reader.new }
 {
     if let Some(text) = reader.eat_text() {

@@ -34,7 +34,10 @@ pub enum Draft<'a> {
         address: bool,
     },
     /// `name+off(SP)`.
-    Auto { off: i64, address: bool },
+    Auto {
+        off: i64,
+        address: bool,
+    },
     /// `n(PC)`: the statement so many source instructions away.
     Away(i64),
     /// `(R1, R2)`.

@@ -34,10 +34,7 @@ pub fn read_operand<'a>(reader: &mut Reader<'a>) -> Result<Draft<'a>, Stop>
 
 // What begins with a name that has no `$` before it.
 #[tactic(auto, unfolding(crate::specs::Operands::behind_name))]
-fn behind_name<'a>(
-    reader: &mut Reader<'a>,
-    name: Word<'a>,
-) -> Result<Draft<'a>, Stop>
+fn behind_name<'a>(reader: &mut Reader<'a>, name: Word<'a>) -> Result<Draft<'a>, Stop>
     ensures { Reads (spec.behind_name name.entry) reader.old result reader.new }
 {
     if reader.is_over() {
@@ -51,11 +48,7 @@ fn behind_name<'a>(
 
 // `R<<n` and its kin, behind the sign.
 #[tactic(auto, unfolding(crate::specs::Operands::shifted))]
-fn shifted<'a>(
-    reader: &mut Reader<'a>,
-    kind: u8,
-    name: Word<'a>,
-) -> Result<Draft<'a>, Stop>
+fn shifted<'a>(reader: &mut Reader<'a>, kind: u8, name: Word<'a>) -> Result<Draft<'a>, Stop>
     ensures { Reads (spec.shifted kind name.entry) reader.old result reader.new }
 {
     let amount = read_expression(reader)?;
@@ -71,11 +64,7 @@ fn shifted<'a>(
 
 // `name+e(SB)` and its kin, behind the name.
 #[tactic(auto, unfolding(crate::specs::Operands::named))]
-fn named<'a>(
-    reader: &mut Reader<'a>,
-    address: bool,
-    name: Word<'a>,
-) -> Result<Draft<'a>, Stop>
+fn named<'a>(reader: &mut Reader<'a>, address: bool, name: Word<'a>) -> Result<Draft<'a>, Stop>
     ensures { Reads (spec.named address name.entry) reader.old result reader.new }
 {
     let fixed = reader.eat(b"<>");
@@ -176,11 +165,7 @@ fn pair<'a>(reader: &mut Reader<'a>, first: Word<'a>) -> Result<Draft<'a>, Stop>
 
 // What an offset means behind this base.
 #[tactic(auto, unfolding(crate::specs::Operands::at_base))]
-fn at_base<'a>(
-    reader: &mut Reader<'a>,
-    off: i64,
-    base: Word<'a>,
-) -> Result<Draft<'a>, Stop>
+fn at_base<'a>(reader: &mut Reader<'a>, off: i64, base: Word<'a>) -> Result<Draft<'a>, Stop>
     ensures { Reads (spec.at_base off base.entry) reader.old result reader.new }
 {
     match base.as_slice() {
@@ -195,11 +180,7 @@ fn at_base<'a>(
 }
 
 #[tactic(auto, unfolding(crate::specs::Operands::in_memory))]
-fn in_memory<'a>(
-    reader: &mut Reader<'a>,
-    off: i64,
-    base: Word<'a>,
-) -> Result<Draft<'a>, Stop>
+fn in_memory<'a>(reader: &mut Reader<'a>, off: i64, base: Word<'a>) -> Result<Draft<'a>, Stop>
     ensures { Reads (spec.in_memory off base.entry) reader.old result reader.new }
 {
     let index = read_index(reader)?;

@@ -239,7 +239,10 @@ fn prefix_count(tokens: &[Token]) -> usize
     ensures len { result ≡ prefix_len expressions.is_prefix_token tokens.now }
     ensures within { result ≤ length tokens.now }
 {
-    tokens.iter().take_while(|token| is_prefix_token(token)).count()
+    tokens
+        .iter()
+        .take_while(|token| is_prefix_token(token))
+        .count()
 }
 
 fn is_prefix_token(token: &Token) -> bool

@@ -85,11 +85,7 @@ fn read_form<'a>(alloc: Global, reader: &mut Reader<'a>) -> Result<Form<'a>, Sto
 }
 
 #[tactic(auto, unfolding(crate::specs::Statements::code))]
-fn read_code<'a>(
-    alloc: Global,
-    reader: &mut Reader<'a>,
-    op: Word<'a>,
-) -> Result<Form<'a>, Stop>
+fn read_code<'a>(alloc: Global, reader: &mut Reader<'a>, op: Word<'a>) -> Result<Form<'a>, Stop>
     ensures read { Reads (spec.code op.entry) reader.old result reader.new }
     ensures sized { IfOk result (λ form. spec.HasSizes form) }
 {
@@ -127,10 +123,7 @@ fn read_suffix(reader: &mut Reader<'_>) -> Result<Option<u8>, Stop>
 }
 
 #[tactic(auto, unfolding(crate::specs::Statements::operands), using(crate::proofs::Repeats::starts, crate::proofs::Repeats::is_done, crate::proofs::Listed::not_begun))]
-fn read_operands<'a>(
-    alloc: Global,
-    reader: &mut Reader<'a>,
-) -> Result<List<Draft<'a>>, Stop>
+fn read_operands<'a>(alloc: Global, reader: &mut Reader<'a>) -> Result<List<Draft<'a>>, Stop>
     ensures { Reads spec.operands reader.old result reader.new }
 {
     let mut operands = Vec::new(alloc);

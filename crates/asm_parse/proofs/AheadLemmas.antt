@@ -18,8 +18,8 @@ pub outlook_turn : (statements : List (Bor (List Token))) (at : ℕ) (statement 
 unfolding outlooks_back
 outlook_turn statements at statement within item =
     let front : drop at (seen statements) ≡ statement.now ∷ drop (at + 1) (seen statements) =
-        drop-map (λ (x : Bor (List Token)). x.now) at statements ∙ ap (map (λ (x : Bor (List Token)). x.now)) (drop_more statements at statement within ∙ ap (λ (x : Bor (List Token)). x ∷ drop (at + 1) statements) (sym item))
-        ∙ ap (λ (others : List (List Token)). statement.now ∷ others) (sym (drop-map (λ (x : Bor (List Token)). x.now) (at + 1) statements)) in
+    drop-map (λ (x : Bor (List Token)). x.now) at statements ∙ ap (map (λ (x : Bor (List Token)). x.now)) (drop_more statements at statement within ∙ ap (λ (x : Bor (List Token)). x ∷ drop (at + 1) statements) (sym item))
+    ∙ ap (λ (others : List (List Token)). statement.now ∷ others) (sym (drop-map (λ (x : Bor (List Token)). x.now) (at + 1) statements)) in
     (rw front refl, rw front refl)
 
 -- what was read, and what is left behind it

@@ -51,5 +51,5 @@ symbol_turn keys n m key items after made e m-is items-is after-is made-is =
     let inside : n < length (map key_seen keys) = rw length-map at.0 in
     let named : get_or (map key_seen keys) n (key_seen key) ≡ key_seen key = get_or-map key_seen keys n key (key_seen key) at.0 ∙ ap key_seen (sym at.1) in
     let more : map symbol_of (take (n + 1) (map key_seen keys)) ≡ map symbol_of (take n (map key_seen keys)) ++ symbol_of (key_seen key) ∷ [] =
-        map_more symbol_of (map key_seen keys) n (key_seen key) inside ∙ ap (λ (k : Key). map symbol_of (take n (map key_seen keys)) ++ symbol_of k ∷ []) named in
+    map_more symbol_of (map key_seen keys) n (key_seen key) inside ∙ ap (λ (k : Key). map symbol_of (take n (map key_seen keys)) ++ symbol_of k ∷ []) named in
     (omega (arith, at.0, m-is), after-is ∙ ap (λ (l : List Symbol). l ++ made ∷ []) items-is ∙ ap (λ (x : Symbol). map symbol_of (take n (map key_seen keys)) ++ x ∷ []) made-is ∙ sym more ∙ ap (λ (k : ℕ). map symbol_of (take k (map key_seen keys))) (sym m-is))

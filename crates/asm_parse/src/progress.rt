@@ -11,9 +11,7 @@ use crate::numbering::Numbering;
 use crate::parse_no::ParseNo;
 use crate::unit::Unit;
 use crate::unit_parts::{functions_of, globals_of, values_of};
-use asm_grammar::{
-    CodeLine, DataLine, DataValue, Draft, GlobalLine, SymbolName, TextLine, Word,
-};
+use asm_grammar::{CodeLine, DataLine, DataValue, Draft, GlobalLine, SymbolName, TextLine, Word};
 use goasm_base::{Memory, Pos};
 use indexmap::IndexMap;
 use std::alloc::Global;

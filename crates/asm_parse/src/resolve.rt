@@ -125,7 +125,11 @@ fn is_unknown<W: Fn(&[u8]) -> bool>(
 {
     match draft {
         Draft::Bare(name) => !is_word(name.as_slice()) && goal_of(body, name).is_none(),
-        Draft::Symbol { symbol, off: _, address: _ } => number_of(symbols, symbol).is_none(),
+        Draft::Symbol {
+            symbol,
+            off: _,
+            address: _,
+        } => number_of(symbols, symbol).is_none(),
         _ => false,
     }
 }
@@ -171,10 +175,7 @@ fn operand_of<W: Fn(&[u8]) -> bool>(
             Some(statement) => Ok(Operand::Label(statement)),
             None => Err(ParseNo::P8(line.pos)),
         },
-        Draft::Pair(first, second) => Ok(Operand::Pair(
-            first.owned(alloc)?,
-            second.owned(alloc)?,
-        )),
+        Draft::Pair(first, second) => Ok(Operand::Pair(first.owned(alloc)?, second.owned(alloc)?)),
         Draft::Shifted { reg, kind, amount } => Ok(Operand::Shifted {
             reg: reg.owned(alloc)?,
             kind: *kind,
@@ -203,10 +204,7 @@ fn bare<W: Fn(&[u8]) -> bool>(
     }
 }
 
-fn owned_index(
-    alloc: Global,
-    index: &Option<(Word<'_>, u8)>,
-) -> Result<Option<(Name, u8)>, Memory>
+fn owned_index(alloc: Global, index: &Option<(Word<'_>, u8)>) -> Result<Option<(Name, u8)>, Memory>
     ensures { IfOk result (λ owned. owned ≡ index.now) }
 {
     match index {

@@ -4,8 +4,8 @@ ghost use Rattle.asm_parse.specs.Steps as spec;
 ghost use Rattle.asm_parse.specs.Words.{IsAskable, Tells};
 
 use crate::ahead::{Opening, Outlook};
-use crate::progress::Progress;
 use crate::parse_no::{ParseNo, refusal};
+use crate::progress::Progress;
 use crate::words::are_words;
 use asm_grammar::{Cause, Form, Reader, Statement, Stop, lower, read_statement};
 use asm_lex::Token;

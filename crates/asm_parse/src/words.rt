@@ -22,11 +22,17 @@ fn has_words<W: Fn(&[u8]) -> bool>(is_word: &W, operand: &Draft<'_>) -> bool
     ensures { (word : List ℕ → Bool) → Tells (W.post is_word.now) word → result ≡ spec.has_words word operand.now }
 {
     match operand {
-        Draft::Mem { off: _, base, index } => {
-            is_base(is_word, base) && is_index(is_word, index)
-        }
+        Draft::Mem {
+            off: _,
+            base,
+            index,
+        } => { is_base(is_word, base) && is_index(is_word, index) }
         Draft::Pair(first, second) => is_word(first.as_slice()) && is_word(second.as_slice()),
-        Draft::Shifted { reg, kind: _, amount: _ } => is_word(reg.as_slice()),
+        Draft::Shifted {
+            reg,
+            kind: _,
+            amount: _,
+        } => is_word(reg.as_slice()),
         _ => true,
     }
 }

@@ -1,4 +1,5 @@
-//! Tests of the crates that read a build's sources: lists, tokens, macros, and the lines that tell refusals.
+//! Tests of the crates that read a build's sources, a module for each: lists, tokens, macros, statements, and the lines
+//! that tell refusals.
 #![tactic(auto)]
 
 #[cfg(test)]
@@ -7,5 +8,7 @@ mod lex_tests;
 mod list_tests;
 #[cfg(test)]
 mod macro_tests;
+#[cfg(test)]
+mod parse_tests;
 #[cfg(test)]
 mod text_tests;

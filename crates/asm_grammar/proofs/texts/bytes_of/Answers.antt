@@ -1,6 +1,5 @@
 use Rattle.std.proofs.Common.{◌≡◌, ◌<◌, length, arith}
 use Rattle.std.proofs.lemmas.Bool.Decides.{nat_tests}
-use Rattle.asm_grammar.specs.Texts.{bytes_of}
 use Rattle.asm_grammar.proofs.TextLemmas.{goes_on, is_done}
 use Rattle.asm_grammar.proofs.texts.bytes_of.Goals as goal
 

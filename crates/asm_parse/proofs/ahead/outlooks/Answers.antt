@@ -5,5 +5,5 @@ use Rattle.asm_parse.proofs.ahead.outlooks.Goals as goal
 pub loop-at-preserved : goal.loop-at-preserved
 loop-at-preserved c =
     let kept = outlook_kept c.args.statements.now c.loop-at.at c.index-statements-at.result c.loop-at.all.items c.push.new.self.items c.loop-at.behind c.before-here.result c.opening_of.result
-        c.loop-at-test.true c.loop-at.invariant.within c.index-statements-at.is c.loop-at.invariant.all c.loop-at.invariant.behind c.opening_of.ensures c.before-here.ensures c.in_ok-push.ensures.items in
+    c.loop-at-test.true c.loop-at.invariant.within c.index-statements-at.is c.loop-at.invariant.all c.loop-at.invariant.behind c.opening_of.ensures c.before-here.ensures c.in_ok-push.ensures.items in
     record { within = omega (arith, c.loop-at.invariant.within); all = kept.0; behind = kept.1 }

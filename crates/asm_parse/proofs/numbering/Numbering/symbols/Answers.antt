@@ -8,5 +8,5 @@ pub loop-key-preserved : goal.loop-key-preserved
 loop-key-preserved c =
     let found = c.in-Some.ensures.key ∙ ap (slice_get c.self.inside.names.keys) c.len.ensures in
     let turn = symbol_turn c.self.inside.names.keys _ _ c.in-Some.key.now c.loop-key.symbols.items c.push.new.self.items _ found c.in_ok-push.ensures.len c.loop-key.invariant.items c.in_ok-push.ensures.items
-        (ap (λ (n : List ℕ). record { name = n; fixed = c.in-Some.key.now.1 }) c.in_ok-name_of.ensures) in
+    (ap (λ (n : List ℕ). record { name = n; fixed = c.in-Some.key.now.1 }) c.in_ok-name_of.ensures) in
     record { within = turn.0; items = turn.1 }
