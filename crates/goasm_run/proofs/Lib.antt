@@ -4,3 +4,4 @@ mod StatusLemmas
 mod Examples
 mod PartLemmas
 mod SourceLemmas
+mod StatementLemmas

@@ -36,6 +36,7 @@ parts_stopped holds faults reads old mid new all left rest line number parts sto
       | inl same ↦ rw same (reached.leads next).made
       | inr some ↦ inr ((reached.leads next).makes (reads new) (rw (is, ← reached.same) some))
     ]
-parts_stopped holds faults reads old mid new all left rest line number parts (stops.Unread name) reached is stopped =
-    (λ next. (reached.leads next).asks (reads new) name (rw (is, ← reached.same) (stopped.0 rest next)),
-    rw (← reached.unfailed name) stopped.1)
+parts_stopped holds faults reads old mid new all left rest line number parts (stops.Unread name) reached is stopped = (
+  λ next. (reached.leads next).asks (reads new) name (rw (is, ← reached.same) (stopped.0 rest next)),
+  rw (← reached.unfailed name) stopped.1,
+)

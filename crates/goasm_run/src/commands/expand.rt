@@ -8,7 +8,8 @@ ghost use Rattle.goasm_run.specs.Stops.{Gives, Answers};
 ghost use Rattle.goasm_run.specs.Lists.{list_answer};
 ghost use Rattle.goasm_run.specs.Sources.{seen, AreFormed};
 ghost use Rattle.goasm_run.specs.Expand as spec;
-ghost use Rattle.goasm_run.specs.Expand.{token_text, over_outcome, over_sources, expand_answer, expand_lines, expand_plan};
+ghost use Rattle.goasm_run.specs.Expand.{list_text, over_outcome, over_sources, expand_answer, expand_lines, expand_plan};
+ghost use Rattle.goasm_run.specs.TokensWritten.{token_text};
 
 use crate::limits;
 use crate::list::lines_of;
@@ -76,12 +77,12 @@ fn over_tokens(alloc: Global, names: Vec<Name>, found: &Sources) -> Result<Bytes
     let sources = found.sources.as_slice();
     let includes = found.includes.as_slice();
     let more = line_names(alloc, sources, includes)?;
-    let files = with_more(alloc, names, more.as_slice())?;
     // A file has a number below 2^32. So many names of `#line` don't fit in memory, which is what the answer says.
     let room = u32::MAX - greatest_of(sources, includes, found.defines.as_slice());
     if more.len() > room as usize {
         return Err(Stop::Memory);
     }
+    let files = with_more(names, more)?;
     over_files(alloc, files.as_slice(), found)
 }
 
@@ -106,15 +107,13 @@ fn over_files(alloc: Global, files: &[Name], found: &Sources) -> Result<Bytes, S
 }
 
 // The names with more behind them.
-fn with_more(alloc: Global, names: Vec<Name>, more: &[Name]) -> Result<Vec<Name>, Stop>
-    ensures names { IfOk result (λ all. all.items ≡ names.items ++ more.now) }
+fn with_more(names: Vec<Name>, more: Vec<Name>) -> Result<Vec<Name>, Stop>
+    ensures names { IfOk result (λ all. all.items ≡ names.items ++ more.items) }
     ensures memory { IfErr result (λ stop. stop ≡ stops.Memory) }
 {
     let mut all = names;
-    let mut rest = more;
-    while let Some((name, behind)) = rest.split_first() {
-        all.push(name.copy(alloc)?)?;
-        rest = behind;
+    for name in more {
+        all.push(name)?;
     }
     Ok(all)
 }
@@ -124,27 +123,23 @@ fn text(alloc: Global, files: &[Name], all: &[Tokens]) -> Result<Bytes, Memory>
     ensures { IfOk result (λ text. text ≡ spec.expanded_text files.now all.now) }
 {
     let mut text = Text::new(alloc);
-    let mut rest = all;
-    while let Some((tokens, behind)) = rest.split_first() {
+    for tokens in all {
         push_statements(&mut text, files, tokens.list.as_slice())?;
-        rest = behind;
     }
     Ok(text.finish())
 }
 
 // Appends a line for each statement that has a token besides its end.
-#[tactic(auto, unfolding(crate::specs::Expand::statements))]
+#[tactic(auto, unfolding(crate::proofs::StatementLemmas::written), using(crate::proofs::StatementLemmas::written_list))]
 fn push_statements(text: &mut Text, files: &[Name], list: &[Token]) -> Result<(), Memory>
-    ensures { OnOk result (text.new ≡ text.old ++ spec.statements files.now false list.now) }
+    ensures { OnOk result (text.new ≡ text.old ++ list_text files.now list.now) }
 {
     let mut begun = false;
-    let mut rest = list;
-    while let Some((token, behind)) = rest.split_first() {
+    for token in list {
         push_token(text, files, begun, token)?;
         begun = !matches!(token.kind, Kind::End);
-        rest = behind;
     }
-    Ok(())
+    if begun { text.push(b"\n") } else { Ok(()) }
 }
 
 // Appends what a token gives: the place of a statement's first token, a space and the token, or the end of a line.
