@@ -1,4 +1,4 @@
-use Rattle.std.proofs.Common.{◌≡◌, ℕ, zero, suc, ◌+◌, ◌-◌, ◌<◌, ◌≤◌, false, nat_eq, List, [], ◌∷◌, ◌++◌, length, take, Option, Some, None, refl, sym, ◌∙◌, ap, append_assoc, arith}
+use Rattle.std.proofs.Common.{◌≡◌, ℕ, zero, suc, ◌+◌, ◌-◌, ◌<◌, ◌≤◌, false, nat_eq, List, ◌++◌, length, take, Option, None, refl, sym, ◌∙◌, ap, append_assoc, arith}
 use Rattle.std.proofs.lemmas.Str.{utf8_valid_len-IsUtf8}
 use Rattle.std.specs.Str.{IsUtf8}
 use Rattle.std.specs.Str.Lossy.{utf8_valid_len}
@@ -7,16 +7,12 @@ use Rattle.asm_lex.specs.declared.fault.Fault.{Fault}
 use Rattle.asm_lex.specs.declared.piece.Piece.{Piece}
 use Rattle.asm_lex.specs.Pieces.{piece_of}
 use Rattle.asm_lex.specs.Cut.{Point, behind, tokens_at, faults_at, end_at, with_piece, cut_within, cut_of}
-use Rattle.asm_lex.specs.Faults.{first_after, earlier, first_fault, faults_of, listed, utf8_fault, zero_fault}
+use Rattle.asm_lex.specs.Faults.{line_of, number_of, first_after, first_fault, faults_of, utf8_fault, zero_fault}
+use Rattle.goasm_base.proofs.RefusalLemmas.{first_after-append}
+use Rattle.std.specs.Option.{option_to_list}
 
 pub all_utf8 : (bytes : List ℕ) → IsUtf8 bytes → utf8_valid_len bytes ≡ length bytes
 all_utf8 bytes is = utf8_valid_len-IsUtf8 bytes is
-
--- the first of two lists, one after the other
-pub first_after_both : (best : Option Fault) (one other : List Fault)
-    → first_after best (one ++ other) ≡ first_after (first_after best one) other
-first_after_both best [] other = refl
-first_after_both best (fault ∷ one) other = first_after_both (Some (earlier best fault)) one other
 
 -- a piece, where bytes are left
 pub cut_next : (n i file : ℕ) (point : Point) → i < n → nat_eq (length point.rest) 0 ≡ false
@@ -55,7 +51,7 @@ pub faults_next : (n i file : ℕ) (point next : Point) (piece : Piece) (before 
 faults_next n i file point next piece before after whole inside left is there adds known =
     let step : first_after before (faults_at point (piece_of point.rest).class ++ (cut_within (n - (i + 1)) file (behind point (piece_of point.rest))).faults) ≡ whole
     = rw (cut_next n i file point inside left) at known in
-    let both = first_after_both before (faults_at point (piece_of point.rest).class) (cut_within (n - (i + 1)) file (behind point (piece_of point.rest))).faults in
+    let both = first_after-append line_of number_of before (faults_at point (piece_of point.rest).class) (cut_within (n - (i + 1)) file (behind point (piece_of point.rest))).faults in
     rw (adds, there, is) (sym both ∙ step)
 
 -- the end of the file is added
@@ -78,8 +74,8 @@ cut_spent n i file point spent =
 
 -- the first of all that is refused
 pub first_of_all : (bytes : List ℕ) (file : ℕ)
-    → first_after (first_fault (listed (utf8_fault bytes) ++ listed (zero_fault bytes))) (cut_of file bytes).faults
+    → first_after (first_fault (option_to_list (utf8_fault bytes) ++ option_to_list (zero_fault bytes))) (cut_of file bytes).faults
     ≡ first_fault (faults_of file bytes)
 first_of_all bytes file =
-    let both = first_after_both None (listed (utf8_fault bytes) ++ listed (zero_fault bytes)) (cut_of file bytes).faults in
-    sym both ∙ ap first_fault (append_assoc (listed (utf8_fault bytes)) (listed (zero_fault bytes)) (cut_of file bytes).faults)
+    let both = first_after-append line_of number_of None (option_to_list (utf8_fault bytes) ++ option_to_list (zero_fault bytes)) (cut_of file bytes).faults in
+    sym both ∙ ap first_fault (append_assoc (option_to_list (utf8_fault bytes)) (option_to_list (zero_fault bytes)) (cut_of file bytes).faults)

@@ -10,7 +10,7 @@ use Rattle.asm_lex.specs.declared.token.Token.{Token}
 use Rattle.asm_lex.specs.declared.piece.Piece.{Piece}
 use Rattle.asm_lex.specs.declared.piece.Class.{Class}
 use Rattle.asm_lex.specs.declared.piece.Class.TheVariants.{Gap, Part, Wrong}
-use Rattle.asm_lex.specs.Characters.{newline, quote, star, slash, semicolon, backslash, is_space, is_digit, first, begins}
+use Rattle.asm_lex.specs.Characters.{newline, quote, star, slash, semicolon, backslash, is_space, is_ascii_digit, first, begins}
 use Rattle.asm_lex.specs.Words.{run_len, is_word}
 use Rattle.asm_lex.specs.Numbers.{number_value}
 use Rattle.asm_lex.specs.Texts.{text_end, closing, are_escapes, inside, is_text}
@@ -37,7 +37,7 @@ either : (P : Piece → Type 0) (test : Bool) (one other : Piece)
 either P true one other first second = first refl
 either P false one other first second = second refl
 
-word_taken : (bytes : List ℕ) → is_digit (first bytes) ≡ false → nat_lt 0 (run_len bytes) ≡ true
+word_taken : (bytes : List ℕ) → is_ascii_digit (first bytes) ≡ false → nat_lt 0 (run_len bytes) ≡ true
     → IsTrue (is_word (take (run_len bytes) bytes))
 word_taken bytes letter some =
     let bounds = run_bound 0 0 bytes in
@@ -46,7 +46,7 @@ word_taken bytes letter some =
     let len : length (take (run_len bytes) bytes) ≡ run_len bytes = length-take-le (run_len bytes) bytes within in
     rw (len, some, get_or-take (run_len bytes) bytes 0 0 positive, letter, run_taken bytes) (eq-eqb _ _ refl)
 
-word_formed : (bytes : List ℕ) → is_digit (first bytes) ≡ false → IsFormed bytes (word_piece bytes)
+word_formed : (bytes : List ℕ) → is_ascii_digit (first bytes) ≡ false → IsFormed bytes (word_piece bytes)
 unfolding word_piece
 word_formed bytes letter =
     either (IsFormed bytes) (nat_lt 0 (run_len bytes)) _ _ (word_taken bytes letter)
@@ -103,7 +103,7 @@ unfolding token_piece
 token_formed bytes =
     either (IsFormed bytes) (first bytes == newline || first bytes == semicolon) _ _ (end_formed bytes)
     (λ _. either (IsFormed bytes) (first bytes == quote) _ _ (text_formed bytes)
-    (λ _. either (IsFormed bytes) (is_digit (first bytes)) _ _ (λ _. number_formed bytes) (word_formed bytes)))
+    (λ _. either (IsFormed bytes) (is_ascii_digit (first bytes)) _ _ (λ _. number_formed bytes) (word_formed bytes)))
 
 comment_formed_of : (bytes : List ℕ) (found : Option ℕ) → IsFormed bytes (comment_piece_of bytes found)
 comment_formed_of bytes None = tt

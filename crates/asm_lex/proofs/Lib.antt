@@ -6,3 +6,4 @@ mod TextLemmas
 mod SignLemmas
 mod FormLemmas
 mod FirstLemmas
+mod PlaceLemmas

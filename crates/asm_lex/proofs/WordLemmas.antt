@@ -5,7 +5,7 @@ use Rattle.std.proofs.Math.Bool.{or-true}
 use Rattle.std.proofs.lemmas.Bool.{cases_Bool, cases_lt, lt-ltb, eqb-true}
 use Rattle.std.proofs.lemmas.List.{get_or-take}
 use Rattle.std.proofs.Math.ListN.{get_or-eq_default}
-use Rattle.asm_lex.specs.Characters.{is_letter, is_digit, first, begins}
+use Rattle.asm_lex.specs.Characters.{is_letter, is_ascii_digit, first, begins}
 use Rattle.asm_lex.specs.Words.{is_middle_dot, is_division_slash, char_len, run_end, run_len}
 
 -- how long a character is, by the tests on it
@@ -29,7 +29,7 @@ char_kept : (byte : ℕ) (bytes : List ℕ) (len : ℕ)
     → char_len (byte ∷ take len bytes) ≡ char_len (byte ∷ bytes)
 unfolding char_len
 char_kept byte bytes len some fits =
-    len_kept (is_letter byte || is_digit byte) (is_middle_dot (byte ∷ bytes)) (is_division_slash (byte ∷ bytes))
+    len_kept (is_letter byte || is_ascii_digit byte) (is_middle_dot (byte ∷ bytes)) (is_division_slash (byte ∷ bytes))
     (is_middle_dot (byte ∷ take len bytes)) (is_division_slash (byte ∷ take len bytes)) len
     (λ one. rw (get_or-take len bytes 0 0 one) refl)
     (λ two. let one : 0 < len = omega arith in rw (get_or-take len bytes 0 0 one, get_or-take len bytes 1 0 two) refl)
@@ -58,7 +58,7 @@ len_fits false false false len one two three = omega arith
 char_fits : (byte : ℕ) (bytes : List ℕ) → char_len (byte ∷ bytes) ≤ suc (length bytes)
 unfolding char_len
 char_fits byte bytes =
-    len_fits (is_letter byte || is_digit byte) (is_middle_dot (byte ∷ bytes)) (is_division_slash (byte ∷ bytes)) (suc (length bytes))
+    len_fits (is_letter byte || is_ascii_digit byte) (is_middle_dot (byte ∷ bytes)) (is_division_slash (byte ∷ bytes)) (suc (length bytes))
     (omega arith)
     (λ dot. let inside : 0 < length bytes = there bytes 0 0xB7 (second (byte == 0xC2) (get_or bytes 0 0 == 0xB7) dot) (lit< tt) in omega arith)
     (λ slash. let inside : 1 < length bytes = there bytes 1 0x95 (second (begins 0xE2 0x88 (byte ∷ bytes)) (get_or bytes 1 0 == 0x95) slash) (lit< tt) in omega arith)
@@ -126,10 +126,10 @@ pub run_taken : (bytes : List ℕ) → run_len (take (run_len bytes) bytes) ≡ 
 run_taken bytes = run_taken_at 0 0 bytes (run_len bytes) (run_len bytes) (omega arith) refl
 
 -- a digit can stand in a word
-pub digit_runs : (bytes : List ℕ) → IsTrue (is_digit (first bytes)) → 0 < run_len bytes
+pub digit_runs : (bytes : List ℕ) → IsTrue (is_ascii_digit (first bytes)) → 0 < run_len bytes
 unfolding run_end char_len
 digit_runs [] digit = cc
 digit_runs (byte ∷ bytes) digit =
-    let test : (is_letter byte || is_digit byte) ≡ true = rw digit (or-true (is_letter byte)) in
+    let test : (is_letter byte || is_ascii_digit byte) ≡ true = rw digit (or-true (is_letter byte)) in
     let later = run_bound 1 0 bytes in
     rw test (omega (arith, later.0))

@@ -1,7 +1,8 @@
 -- What is refused in a source, and which refusal comes first: by lines, and at one line the one with the lowest
 -- number.
-use Rattle.std.specs.Prelude.{◌≡◌, ℕ, Bool, false, All, Contains, List, [], ◌∷◌, ◌++◌, ◌==◌, ◌&&◌, ◌||◌, nat_lt, length, take, position, Option, Some, None, Result, Ok, Err, if◌then◌else◌}
-use Rattle.std.specs.Option.{option_map}
+use Rattle.std.specs.Prelude.{◌≡◌, ℕ, Bool, List, ◌++◌, ◌==◌, length, take, position, Option, Some, None, if◌then◌else◌}
+use Rattle.std.specs.Option.{option_map, option_to_list}
+use Rattle.goasm_base.specs.Refusals as refusals
 use Rattle.std.specs.Str.Lossy.{utf8_valid_len}
 use Rattle.goasm_base.specs.declared.pos.Pos.{Pos}
 use Rattle.asm_lex.specs.declared.fault.Cause.{Cause}
@@ -27,13 +28,9 @@ is_zero byte = byte == 0
 unfoldable pub zero_fault : List ℕ → Option Fault
 zero_fault bytes = option_map (fault_at bytes Stray) (position is_zero bytes)
 
-abbrev pub listed : Option Fault → List Fault
-listed None = []
-listed (Some fault) = fault ∷ []
-
 -- all that is refused in a source, also behind the first that is
 abbrev pub faults_of : ℕ → List ℕ → List Fault
-faults_of file bytes = listed (utf8_fault bytes) ++ (listed (zero_fault bytes) ++ (cut_of file bytes).faults)
+faults_of file bytes = option_to_list (utf8_fault bytes) ++ (option_to_list (zero_fault bytes) ++ (cut_of file bytes).faults)
 
 -- the number of a refusal
 abbrev pub number : Cause → ℕ
@@ -42,22 +39,25 @@ number Open = 2
 number Form = 3
 number Stray = 4
 
--- by lines, and at one line the lowest number
+abbrev pub line_of : Fault → ℕ
+line_of fault = fault.line
+
+abbrev pub number_of : Fault → ℕ
+number_of fault = number fault.cause
+
+-- by lines, and at one line by the numbers
 abbrev pub comes_before : Fault → Fault → Bool
-comes_before one other =
-    nat_lt one.line other.line || (one.line == other.line && nat_lt (number one.cause) (number other.cause))
+comes_before one other = refusals.comes_before line_of number_of one other
 
 abbrev pub earlier : Option Fault → Fault → Fault
-earlier None fault = fault
-earlier (Some best) fault = if comes_before fault best then fault else best
+earlier best fault = refusals.earlier line_of number_of best fault
 
 -- the first of a fault that was found and of those in the list
 abbrev pub first_after : Option Fault → List Fault → Option Fault
-first_after best [] = best
-first_after best (fault ∷ faults) = first_after (Some (earlier best fault)) faults
+first_after best faults = refusals.first_after line_of number_of best faults
 
 abbrev pub first_fault : List Fault → Option Fault
-first_fault faults = first_after None faults
+first_fault faults = refusals.first_of line_of number_of faults
 
 abbrev pub refusal : ℕ → Fault → LexNo
 refusal file fault = refusal_at fault.cause (record { file = file; line = fault.line }) where
@@ -67,36 +67,20 @@ refusal file fault = refusal_at fault.cause (record { file = file; line = fault.
   refusal_at Form pos = L3 pos
   refusal_at Stray pos = L4 pos
 
+-- the place of a refusal is in this file; want of memory has none
+abbrev pub IsInFile : ℕ → LexNo → Type 0
+IsInFile file (L1 pos) = pos.file ≡ file
+IsInFile file (L2 pos) = pos.file ≡ file
+IsInFile file (L3 pos) = pos.file ≡ file
+IsInFile file (L4 pos) = pos.file ≡ file
+IsInFile file Memory = Unit {0}
+
 -- the first refusal of a source
 abbrev pub refusal_of : ℕ → List ℕ → Option LexNo
 refusal_of file bytes = option_map (refusal file) (first_fault (faults_of file bytes))
 
--- a fault of the list, before which none of it comes
-pub record IsFirst (faults : List Fault) (fault : Fault) : Type 0 where
-  pub there : Contains faults fault
-  pub first : All (λ other. comes_before other fault ≡ false) faults
-
--- the refusal is that of a first fault of the list
-abbrev pub RefusesFirst : ℕ → List Fault → LexNo → Type 0
-RefusesFirst file faults found = (fault : Fault) × (refusal file fault ≡ found) × IsFirst faults fault
-
--- want of memory may come anywhere
-abbrev pub Refuses : LexNo → Option LexNo → Type 0
-Refuses Memory first = Unit {0}
-Refuses (L1 pos) first = first ≡ Some (L1 pos)
-Refuses (L2 pos) first = first ≡ Some (L2 pos)
-Refuses (L3 pos) first = first ≡ Some (L3 pos)
-Refuses (L4 pos) first = first ≡ Some (L4 pos)
-
--- a source is read exactly where nothing in it is refused, and is otherwise refused with its first refusal
-abbrev pub Judges : {T : Type 0} → Result T LexNo → Option LexNo → Type 0
-Judges (Ok read) first = first ≡ None
-Judges (Err found) first = Refuses found first
-
--- the refusal is that of a first fault of the list; want of memory may come anywhere
-abbrev pub IsFirstRefusal : ℕ → List Fault → LexNo → Type 0
-IsFirstRefusal file faults Memory = Unit {0}
-IsFirstRefusal file faults (L1 pos) = RefusesFirst file faults (L1 pos)
-IsFirstRefusal file faults (L2 pos) = RefusesFirst file faults (L2 pos)
-IsFirstRefusal file faults (L3 pos) = RefusesFirst file faults (L3 pos)
-IsFirstRefusal file faults (L4 pos) = RefusesFirst file faults (L4 pos)
+-- the refusal is that of a fault of the list, before which none of it comes
+pub record IsFirstRefusal (file : ℕ) (faults : List Fault) (found : LexNo) : Type 0 where
+  pub fault : Fault
+  pub is : refusal file fault ≡ found
+  pub first : refusals.IsFirst line_of number_of faults fault

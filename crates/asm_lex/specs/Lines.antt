@@ -1,9 +1,7 @@
 -- Line numbers. They begin at 1, go up at each newline, and stop at 2 ^ 31 - 2.
-use Rattle.std.specs.Prelude.{ℕ, List, [], ◌∷◌, ◌+◌, ◌-◌, ◌^◌, ◌==◌, nat_lt, if◌then◌else◌}
+use Rattle.std.specs.Prelude.{ℕ, List, [], ◌∷◌, ◌+◌, ◌==◌, nat_lt, if◌then◌else◌}
 use Rattle.asm_lex.specs.Characters.{newline}
-
-abbrev pub last_line : ℕ
-last_line = 2 ^ 31 - 2
+pub use Rattle.goasm_base.specs.Lines.{last_line}
 
 abbrev pub next_line : ℕ → ℕ
 next_line line = if nat_lt line last_line then line + 1 else line

@@ -6,7 +6,7 @@ use Rattle.asm_lex.specs.declared.piece.Piece.{Piece}
 use Rattle.asm_lex.specs.declared.piece.Class.{Class}
 use Rattle.asm_lex.specs.declared.piece.Class.TheVariants.{Gap, Part, Wrong}
 use Rattle.asm_lex.specs.declared.fault.Cause.TheVariants.{Open, Form, Stray}
-use Rattle.asm_lex.specs.Characters.{newline, quote, star, slash, semicolon, backslash, is_space, is_digit, first, begins}
+use Rattle.asm_lex.specs.Characters.{newline, quote, star, slash, semicolon, backslash, is_space, is_ascii_digit, first, begins}
 use Rattle.asm_lex.specs.Words.{run_len}
 use Rattle.asm_lex.specs.Numbers.{number_value}
 use Rattle.asm_lex.specs.Texts.{closing, are_escapes, inside}
@@ -55,7 +55,7 @@ unfoldable pub token_piece : List ℕ → Piece
 token_piece bytes =
     if first bytes == newline || first bytes == semicolon then piece (Part kinds.End) 1
     else (if first bytes == quote then text_piece bytes
-    else (if is_digit (first bytes) then number_piece bytes
+    else (if is_ascii_digit (first bytes) then number_piece bytes
     else word_piece bytes))
 
 unfoldable pub piece_of : List ℕ → Piece

@@ -1,7 +1,7 @@
 -- Texts: on one line, in double quotes. A backslash begins an escape: `\\`, `\"`, `\n`, `\t`, or `\x` and two
 -- hexadecimal digits.
 use Rattle.std.specs.Prelude.{ℕ, Bool, true, false, List, [], ◌∷◌, ◌+◌, ◌-◌, ◌==◌, ◌&&◌, ◌||◌, nat_lt, length, take, drop, slice_index, Option, Some, None, if◌then◌else◌}
-use Rattle.asm_lex.specs.Characters.{newline, quote, backslash, is_hex_digit, first}
+use Rattle.asm_lex.specs.Characters.{newline, quote, backslash, is_ascii_hexdigit, first}
 
 -- where a text ends behind its closing quote, counted from a place `at` bytes before these bytes of it; `None` where
 -- its line ends first. A byte behind a backslash closes nothing
@@ -18,7 +18,7 @@ text_end at escaped (byte ∷ bytes) =
 unfoldable pub escape_len : List ℕ → ℕ
 escape_len bytes =
     if first bytes == backslash || first bytes == quote || first bytes == 110 || first bytes == 116 then 1
-    else (if first bytes == 120 && is_hex_digit (slice_index bytes 1) && is_hex_digit (slice_index bytes 2) then 3
+    else (if first bytes == 120 && is_ascii_hexdigit (slice_index bytes 1) && is_ascii_hexdigit (slice_index bytes 2) then 3
     else 0)
 
 -- each backslash begins an escape; the first `skip` bytes belong to one that was seen

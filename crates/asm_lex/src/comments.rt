@@ -2,7 +2,7 @@ ghost use Rattle.std.specs.Prelude.{◌≡◌, ◌≢◌, ◌+◌, ◌<◌, ◌�
 ghost use Rattle.asm_lex.specs.Characters.{first, newline};
 ghost use Rattle.asm_lex.specs.Comments as spec;
 
-use crate::slices::behind;
+use goasm_base::behind;
 
 /// How many bytes are left of the line, without its newline.
 #[tactic(auto, unfolding(crate::specs::Comments::line_end), using(crate::proofs::LoopLemmas::line_goes_on))]

@@ -141,6 +141,6 @@ fn token_at(
         },
         glued: place.glued,
         kind,
-        text: Name::new(Vec::from_slice(alloc, text)?),
+        text: Name::from_slice(alloc, text)?,
     })
 }

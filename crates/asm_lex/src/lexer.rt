@@ -1,6 +1,8 @@
-ghost use Rattle.std.specs.Prelude.{◌≡◌, [], ◌++◌, IfOk, IfErr, OnOk};
+ghost use Rattle.std.specs.Prelude.{◌≡◌, ◌≢◌, ◌≤◌, ◌+◌, [], ◌++◌, length, All, IfOk, IfErr, OnOk};
 ghost use Rattle.asm_lex.specs.Cut.{tokens_of};
-ghost use Rattle.asm_lex.specs.Faults.{Judges, IsFirstRefusal, refusal_of, faults_of, first_fault, listed};
+ghost use Rattle.asm_lex.specs.Faults.{IsFirstRefusal, IsInFile, refusal_of, faults_of, first_fault};
+ghost use Rattle.goasm_base.specs.Refusals.{Judges};
+ghost use Rattle.std.specs.Option.{option_to_list};
 ghost use Rattle.asm_lex.specs.Faults as spec;
 ghost use Rattle.asm_lex.specs.Form.{AreTokens};
 
@@ -17,13 +19,17 @@ use std::alloc::Global;
 /// They are refused exactly where something in them is, with the first refusal: by lines, where an open text or
 /// comment counts at the line where it begins, and at one line the refusal with the lowest number. Only want of
 /// memory may come in place of any answer.
-#[tactic(auto, using(crate::proofs::CutLemmas::first_of_all, crate::proofs::FormLemmas::cut_formed, crate::proofs::FirstLemmas::refused_first, crate::proofs::FirstLemmas::none_found))]
+#[tactic(auto, using(crate::proofs::CutLemmas::first_of_all, crate::proofs::FormLemmas::cut_formed, crate::proofs::FirstLemmas::refused_first, crate::proofs::FirstLemmas::none_found, crate::proofs::PlaceLemmas::tokens_in, crate::proofs::PlaceLemmas::tokens_few, crate::proofs::PlaceLemmas::refusal_in))]
 pub fn lex(alloc: Global, file: u32, bytes: &[u8]) -> Result<Tokens, LexNo>
-    ensures exact { Judges result (refusal_of file bytes.now) }
-    ensures first { IfErr result (IsFirstRefusal file (faults_of file bytes.now)) }
+    ensures exact { Judges LexNo.Memory result (refusal_of file bytes.now) }
+    ensures first { IfErr result (λ no. no ≢ LexNo.Memory → IsFirstRefusal file (faults_of file bytes.now) no) }
     ensures none { OnOk result (faults_of file bytes.now ≡ []) }
     ensures tokens { IfOk result (λ tokens. tokens ≡ tokens_of file bytes.now) }
     ensures formed { IfOk result (λ tokens. AreTokens tokens) }
+    // All stand in the file, and each but the last takes a byte at least.
+    ensures places { All (λ token. token.pos.file ≡ file) (tokens_of file bytes.now).list }
+    ensures few { length (tokens_of file bytes.now).list ≤ length bytes.now + 1 }
+    ensures place { IfErr result (IsInFile file) }
 {
     let cut = cut_source(alloc, file, bytes, fault_anywhere(bytes))?;
     match cut.fault {
@@ -38,7 +44,7 @@ pub fn lex(alloc: Global, file: u32, bytes: &[u8]) -> Result<Tokens, LexNo>
 // The first fault that may stand in a comment or a text too.
 fn fault_anywhere(bytes: &[u8]) -> Option<Fault>
     ensures { result
-        ≡ first_fault (listed (spec.utf8_fault bytes.now) ++ listed (spec.zero_fault bytes.now)) }
+        ≡ first_fault (option_to_list (spec.utf8_fault bytes.now) ++ option_to_list (spec.zero_fault bytes.now)) }
 {
     let utf8 = utf8_fault(bytes);
     match zero_fault(bytes) {

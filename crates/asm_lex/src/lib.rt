@@ -12,7 +12,6 @@ mod numbers;
 mod piece;
 mod refusal;
 mod signs;
-mod slices;
 mod texts;
 mod token;
 mod words;

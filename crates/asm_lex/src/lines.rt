@@ -1,7 +1,7 @@
 ghost use Rattle.std.specs.Prelude.{◌≡◌};
 ghost use Rattle.asm_lex.specs.Lines as spec;
 
-const LAST_LINE: u32 = 0x7FFF_FFFE;
+use goasm_base::LAST_LINE;
 
 /// The line on which stands what follows these bytes, of which the first stands on this line.
 #[tactic(auto, unfolding(crate::specs::Lines::line_after))]

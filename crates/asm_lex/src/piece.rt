@@ -1,16 +1,16 @@
 ghost use Rattle.std.specs.Prelude.{◌≡◌, ◌<◌, ◌≤◌, length, IsTrue};
 ghost use Rattle.asm_lex.specs.Texts.{are_escapes};
-ghost use Rattle.asm_lex.specs.Characters.{first, is_digit, quote};
+ghost use Rattle.asm_lex.specs.Characters.{first, is_ascii_digit, quote};
 ghost use Rattle.asm_lex.specs.Pieces as spec;
 
 use crate::comments::{comment_end, line_len};
 use crate::fault::Cause;
 use crate::numbers::number_value;
 use crate::signs::sign_len;
-use crate::slices::behind;
 use crate::texts::{are_escapes, text_end};
 use crate::token::Kind;
 use crate::words::run_len;
+use goasm_base::behind;
 
 /// What the bytes at a place begin with.
 #[derive(Clone, Copy)]
@@ -127,7 +127,7 @@ fn closed_text(inside: &[u8], len: usize) -> Piece
 
 #[tactic(auto, unfolding(crate::specs::Pieces::number_piece))]
 fn number_piece(bytes: &[u8]) -> Piece
-    requires { IsTrue (is_digit (first bytes.now)) }
+    requires { IsTrue (is_ascii_digit (first bytes.now)) }
     ensures piece { result ≡ spec.number_piece bytes.now }
     ensures some { 0 < result.len }
     ensures within { result.len ≤ length bytes.now }

@@ -1,7 +1,7 @@
 ghost use Rattle.std.specs.Prelude.{◌≡◌, ◌≤◌, false, length, IfSome};
 ghost use Rattle.asm_lex.specs.Texts as spec;
 
-use crate::slices::behind;
+use goasm_base::behind;
 
 /// Where a text ends behind its closing quote, counted from behind its opening quote. `None` where its line ends
 /// first.

@@ -1,14 +1,14 @@
 ghost use Rattle.std.specs.Prelude.{◌≡◌, ◌<◌, ◌≤◌, length, IsTrue};
-ghost use Rattle.asm_lex.specs.Characters.{first, is_digit};
+ghost use Rattle.asm_lex.specs.Characters.{first, is_ascii_digit};
 ghost use Rattle.asm_lex.specs.Words as spec;
 
-use crate::slices::behind;
+use goasm_base::behind;
 
 /// How many bytes at the front belong to characters that can stand in a word.
 #[tactic(auto, unfolding(crate::specs::Words::run_end), using(crate::proofs::LoopLemmas::run_within, crate::proofs::LoopLemmas::run_on, crate::proofs::LoopLemmas::run_stops, crate::proofs::WordLemmas::digit_runs))]
 pub fn run_len(bytes: &[u8]) -> usize
     ensures len { result ≡ spec.run_len bytes.now }
-    ensures digit { IsTrue (is_digit (first bytes.now)) → 0 < result }
+    ensures digit { IsTrue (is_ascii_digit (first bytes.now)) → 0 < result }
     ensures within { result ≤ length bytes.now }
 {
     let mut skip: usize = 0;
@@ -30,7 +30,7 @@ fn char_len(bytes: &[u8]) -> usize
     ensures { result ≡ spec.char_len bytes.now }
 {
     match bytes {
-        [b'A'..=b'Z' | b'a'..=b'z' | b'_' | b'0'..=b'9', ..] => 1,
+        [byte, ..] if byte.is_ascii_alphanumeric() || *byte == b'_' => 1,
         [0xC2, 0xB7, ..] => 2,
         [0xE2, 0x88, 0x95, ..] => 3,
         _ => 0,

@@ -1,10 +1,8 @@
 -- Loops over the files of a build.
-use Rattle.std.proofs.Common.{◌≡◌, ℕ, suc, ◌+◌, ◌<◌, Bool, true, false, ◌||◌, cond, max, List, [], ◌∷◌, ◌++◌, drop, length, get_or, Option, Some, None, is_some, Result, Ok, Err, if◌then◌else◌, refl, sym, ap, ◌∙◌, add-one, drop-cons, bytes_eq}
+use Rattle.std.proofs.Common.{◌≡◌, ℕ, suc, ◌+◌, ◌<◌, Bool, true, false, ◌||◌, max, List, [], ◌∷◌, ◌++◌, drop, length, get_or, Option, Some, None, is_some, Result, Ok, Err, if◌then◌else◌, refl, sym, ap, ◌∙◌, add-one, drop-cons, append_assoc, append-nil, bytes_eq, ◌≤◌}
 use Rattle.std.specs.Borrow.{Bor}
 use Rattle.std.specs.Option.{option_map}
-use Rattle.std.specs.BTreeSet.{BTreeSet, contains, Updates}
-use Rattle.std.proofs.lemmas.Map.Text.{is_eq-slice_cmp}
-use Rattle.std.proofs.lemmas.Bool.{or_right}
+use Rattle.std.proofs.lemmas.List.{drop_all}
 use Rattle.std.proofs.lemmas.List.Folds.{list_any-append}
 use Rattle.std.proofs.Math.Bool.{or-false}
 use Rattle.asm_lex.specs.declared.token.Token.{Token}
@@ -15,9 +13,11 @@ use Rattle.asm_macro.specs.declared.refusal.MacroNo.{MacroNo}
 use Rattle.asm_macro.specs.Names.{Names, with_name}
 use Rattle.asm_macro.specs.Definitions.{Definitions}
 use Rattle.asm_macro.specs.LineNames.{is_among}
-use Rattle.asm_macro.specs.Seen.{by_bytes, Keeps}
-use Rattle.asm_macro.specs.Files.{Context, State, file}
-use Rattle.asm_macro.specs.Builds.{greatest, included, defined, value_definition, started, sources_from}
+use Rattle.goasm_base.specs.NameSet.{AddsName}
+use Rattle.asm_macro.specs.Seen.{Keeps}
+use Rattle.asm_macro.specs.Refusals.{◌>>=◌}
+use Rattle.asm_macro.specs.Files.{Context, State, read_file}
+use Rattle.asm_macro.specs.Builds.{greatest, included, defined, value_definition, started, expand_sources}
 use Rattle.asm_macro.specs.Views.{names_of, definition_of, macros_in, files_in, entered_of}
 use Rattle.asm_macro.proofs.NameLemmas.{map_name}
 
@@ -85,43 +85,55 @@ included_next before after includes index item tokens whole inside is list puts 
     ∙ ap (λ (named : List Token). if is_some (files_in before item.0) then files_in before else with_name (files_in before) item.0 (Some named)) list in
     ap (λ files. included files (drop (index + 1) includes)) same ∙ step
 
-told : (here before : Bool) → cond here true before ≡ (before || here)
-told true before = sym (or_right before true refl)
-told false before = sym (or-false before)
-
 -- a name that wasn't there
-pub keeps_more : (names : List (List ℕ)) (name : Bor (List ℕ)) (before after : BTreeSet (Bor (List ℕ)))
-    → Updates by_bytes before after name true → Keeps names before → Keeps (names ++ name.now ∷ []) after
-keeps_more names name before after updates keeps =
-    λ other. updates.0 other
-    ∙ ap (λ same. cond same true (contains by_bytes before other)) (is_eq-slice_cmp name.now other.now)
-    ∙ ap (λ there. cond (bytes_eq name.now other.now) true there) (keeps other)
-    ∙ told (bytes_eq name.now other.now) (is_among other.now names)
-    ∙ ap (λ here. is_among other.now names || here) (sym (or-false (bytes_eq name.now other.now)))
-    ∙ sym (list_any-append (λ one. bytes_eq one other.now) names (name.now ∷ []))
+pub keeps_more : (names : List (List ℕ)) (name : List ℕ) (before after : List (List ℕ))
+    → AddsName before after name → Keeps names before → Keeps (names ++ name ∷ []) after
+keeps_more names name before after adds keeps =
+    λ other. adds other
+    ∙ ap (λ there. there || bytes_eq name other) (keeps other)
+    ∙ ap (λ here. is_among other names || here) (sym (or-false (bytes_eq name other)))
+    ∙ sym (list_any-append (λ one. bytes_eq one other) names (name ∷ []))
 
 first_left : {T : Type 0} (items : List T) (index : ℕ) (item : T) → index < length items → item ≡ get_or items index item
     → drop index items ≡ item ∷ drop (index + 1) items
 first_left items index item inside is =
     drop-cons items index item inside ∙ ap (λ here. here ∷ drop (suc index) items) (sym is) ∙ ap (λ next. item ∷ drop next items) (sym (add-one index))
 
+-- the results that are there, before those that come
+abbrev pub with_front : List Tokens → Result (List Tokens) MacroNo → Result (List Tokens) MacroNo
+with_front front answer = answer >>= λ others. Ok (front ++ others)
+
+one_more : (front : List Tokens) (next : Tokens) (answer : Result (List Tokens) MacroNo)
+    → with_front front (answer >>= λ others. Ok (next ∷ others)) ≡ with_front (front ++ next ∷ []) answer
+one_more front next (Ok others) = ap Ok (sym (append_assoc front (next ∷ []) others))
+one_more front next (Err fault) = refl
+
 -- a source that is expanded, and one that is refused
 pub sources_next : (nesting : ℕ) (context : Context) (definitions : Definitions) (room uses : ℕ) (done after sources : List Tokens) (index : ℕ) (item : Tokens) (state : State)
     → index < length sources → item ≡ get_or sources index item
-    → file nesting context item.list (started definitions room uses) ≡ Ok state
+    → read_file nesting context item.list (started definitions room uses) ≡ Ok state
     → after ≡ done ++ record { file = item.file; list = state.work.out } ∷ []
-    → sources_from nesting context definitions room uses done (drop index sources)
-    ≡ sources_from nesting context definitions state.work.room state.work.uses after (drop (index + 1) sources)
-unfolding sources_from
+    → with_front done (expand_sources nesting context definitions room uses (drop index sources))
+    ≡ with_front after (expand_sources nesting context definitions state.work.room state.work.uses (drop (index + 1) sources))
+unfolding expand_sources
 sources_next nesting context definitions room uses done after sources index item state inside is reads adds =
-    ap (λ rest. sources_from nesting context definitions room uses done rest) (first_left sources index item inside is)
-    ∙ rw (reads, sources_from, adds) refl
+    ap (λ rest. with_front done (expand_sources nesting context definitions room uses rest)) (first_left sources index item inside is)
+    ∙ rw (reads, adds) (one_more done (record { file = item.file; list = state.work.out }) (expand_sources nesting context definitions state.work.room state.work.uses (drop (index + 1) sources)))
 
 pub sources_refused : (nesting : ℕ) (context : Context) (definitions : Definitions) (room uses : ℕ) (done sources : List Tokens) (index : ℕ) (item : Tokens) (fault : MacroNo)
     → index < length sources → item ≡ get_or sources index item
-    → file nesting context item.list (started definitions room uses) ≡ Err fault
-    → sources_from nesting context definitions room uses done (drop index sources) ≡ Err fault
-unfolding sources_from
+    → read_file nesting context item.list (started definitions room uses) ≡ Err fault
+    → with_front done (expand_sources nesting context definitions room uses (drop index sources)) ≡ Err fault
+unfolding expand_sources
 sources_refused nesting context definitions room uses done sources index item fault inside is reads =
-    ap (λ rest. sources_from nesting context definitions room uses done rest) (first_left sources index item inside is)
-    ∙ rw (reads, sources_from) refl
+    ap (λ rest. with_front done (expand_sources nesting context definitions room uses rest)) (first_left sources index item inside is)
+    ∙ rw reads refl
+
+pub sources_end : (nesting : ℕ) (context : Context) (definitions : Definitions) (room uses : ℕ) (done sources : List Tokens) (index : ℕ) → length sources ≤ index
+    → with_front done (expand_sources nesting context definitions room uses (drop index sources)) ≡ Ok done
+unfolding expand_sources
+sources_end nesting context definitions room uses done sources index spent = rw (drop_all index sources spent) (ap Ok (append-nil done))
+
+pub sources_begin : (answer : Result (List Tokens) MacroNo) → with_front [] answer ≡ answer
+sources_begin (Ok others) = refl
+sources_begin (Err fault) = refl

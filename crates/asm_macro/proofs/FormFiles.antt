@@ -1,14 +1,12 @@
--- What is read and put out has the form of tokens: files and builds.
-use Rattle.std.proofs.Common.{◌≡◌, ℕ, zero, suc, ◌+◌, ◌&&◌, ◌==◌, nat_eq, Bool, true, false, List, [], ◌∷◌, ◌++◌, take, drop, length, All, Option, Some, None, is_some, is_none, Result, Ok, Err, inl, inr, refl, add-one, bytes_eq, arith, if◌then◌else◌}
-use Rattle.std.specs.List.{before_first, position_or_len}
+-- What is read and put out has the form of tokens and stands in one of these files: files.
+use Rattle.std.proofs.Common.{◌≡◌, ℕ, zero, suc, ◌+◌, ◌&&◌, ◌||◌, ◌==◌, Bool, true, false, List, [], ◌∷◌, All, Option, Some, None, is_some, is_none, Result, Ok, inl, inr, refl, bytes_eq, if◌then◌else◌, not}
+use Rattle.std.specs.List.{before_first}
 use Rattle.std.proofs.lemmas.Bool.{cases_Bool}
-use Rattle.std.proofs.lemmas.List.Elements.{All-nil, All-cons, All-head, All-tail, All-push, All-map, All-take, All-drop, All-from_recursion}
+use Rattle.std.proofs.lemmas.List.Elements.{All-nil, All-cons, All-head, All-tail, All-map, All-take, All-from_recursion}
 use Rattle.goasm_base.specs.declared.pos.Pos.{Pos}
-use Rattle.goasm_base.specs.Numbers.{number_of, digit_value}
+use Rattle.goasm_base.specs.Numbers.{number_of}
 use Rattle.asm_lex.specs.declared.token.Kind.TheVariants as kinds
 use Rattle.asm_lex.specs.declared.token.Token.{Token}
-use Rattle.asm_lex.specs.declared.token.Tokens.{Tokens}
-use Rattle.asm_lex.specs.Form.{EndsWithEnd, AreTokens}
 use Rattle.asm_lex.specs.Numbers.{number_value}
 use Rattle.asm_macro.specs.declared.mapping.Mapping.{Mapping}
 use Rattle.asm_macro.specs.declared.condition.Condition.{Condition}
@@ -18,88 +16,21 @@ use Rattle.asm_macro.specs.declared.keyword.Keyword.TheVariants as keywords
 use Rattle.asm_macro.specs.declared.built_in.BuiltIn.{BuiltIn}
 use Rattle.asm_macro.specs.declared.built_in.BuiltIn.TheVariants.{Textflag, Funcdata}
 use Rattle.asm_macro.specs.declared.built_in.Row.{Row}
-use Rattle.asm_macro.specs.declared.limits.Limits.{Limits}
 use Rattle.asm_macro.specs.Names.{Names, nothing, with_name}
 use Rattle.asm_macro.specs.Tokens.{is_word, is_end, is_newline, is_sign, opening, closing, comma}
 use Rattle.asm_macro.specs.Definitions.{Definition, Definitions}
-use Rattle.asm_macro.specs.Uses.{Work, placed_at, expanded}
-use Rattle.asm_macro.specs.Statements.{Statement, begins_with_hash, statement_len, statement_at, ends_line, behind, statements_within, statements_of}
-use Rattle.asm_macro.specs.Directives.{Head, head_from, head_in, Named, with_head, definition_behind, definition_in, name_in, quoted_in}
-use Rattle.asm_macro.specs.Conditions.{is_taken, left}
-use Rattle.asm_macro.specs.Positions.{moved}
-use Rattle.asm_macro.specs.BuiltIn.{built_in_named, textflag, funcdata, rows_of, is_made_by, row_definition, with_rows}
-use Rattle.asm_macro.specs.Files.{Context, State, Place, Step, Inclusion, top, on, define, undefine, after, counted, enter, defining, with_built_in, include_built_in, include_named, include, included_at, at_place, obey, skip, told, rest_of, worked, placed_in, plain, read, at_end, walk, file}
-use Rattle.asm_macro.specs.Builds.{included, value_definition, defined, started, sources_from, context_for, expanded_from, expansion}
-use Rattle.asm_macro.proofs.FormLemmas.{IsFormed, Formed, FormedPlaced, LastEnd, Ready, FormedDefinitions, GoodOut, GoodWork, end_is, ready_goes, run_formed}
-
--- tokens that may be handed on
-pub record AreGood (tokens : List Token) : Type 0 where
-  pub forms : Formed tokens
-  pub ends : EndsWithEnd tokens
-
--- ends, in parts of lists
-
-ends_tail : (token : Token) (tokens : List Token) → EndsWithEnd (token ∷ tokens) → EndsWithEnd tokens
-ends_tail token [] ends = tt
-ends_tail token (next ∷ tokens) ends = ends
-
-ends_drop : (n : ℕ) (tokens : List Token) → EndsWithEnd tokens → EndsWithEnd (drop n tokens)
-ends_drop zero tokens ends = ends
-ends_drop (suc n) [] ends = tt
-ends_drop (suc n) (token ∷ tokens) ends = ends_drop n tokens (ends_tail token tokens ends)
-
--- up to the first end
-ends_front : (token : Token) (tokens : List Token) → EndsWithEnd (token ∷ tokens) → EndsWithEnd (take (suc (position_or_len is_end (token ∷ tokens))) (token ∷ tokens))
-ends_front token [] ends =
-    elim (cases_Bool (is_end token)) [
-      | inl is ↦ rw is ends
-      | inr goes ↦ rw goes ends
-    ]
-ends_front token (next ∷ tokens) ends =
-    elim (cases_Bool (is_end token)) [
-      | inl is ↦ rw is (end_is token is)
-      | inr goes ↦ let one : 1 + position_or_len is_end (next ∷ tokens) ≡ suc (position_or_len is_end (next ∷ tokens)) = omega arith in
-          rw (goes, one) (ends_front next tokens ends)
-    ]
-
--- a statement, whose tokens end with an end where it is no directive
-pub record GoodStatement (statement : Statement) : Type 0 where
-  pub forms : Formed statement.tokens
-  pub ends : statement.directive ≡ false → EndsWithEnd statement.tokens
-
-cut : (directive : Bool) (tokens : List Token) → Statement
-cut directive tokens = record { directive = directive; tokens = take (statement_len directive tokens) tokens }
-
-ends_cut : (tokens : List Token) → EndsWithEnd tokens → EndsWithEnd (take (position_or_len is_end tokens + 1) tokens)
-ends_cut [] ends = tt
-ends_cut (token ∷ tokens) ends = rw add-one (ends_front token tokens ends)
-
-cut_good : (directive : Bool) (tokens : List Token) → AreGood tokens → GoodStatement (cut directive tokens)
-unfolding cut statement_len
-cut_good true tokens good = record { forms = All-take IsFormed _ tokens good.forms; ends = λ is. absurd (let no : true ≡ false = is in cc) }
-cut_good false tokens good = record { forms = All-take IsFormed _ tokens good.forms; ends = λ is. ends_cut tokens good.ends }
-
-statement_good : (fresh : Bool) (tokens : List Token) → AreGood tokens → GoodStatement (statement_at fresh tokens)
-unfolding statement_at cut
-statement_good fresh tokens good = cut_good (fresh && begins_with_hash tokens) tokens good
-
-behind_good : (fresh : Bool) (tokens : List Token) → AreGood tokens → AreGood (behind fresh tokens)
-unfolding behind
-behind_good fresh tokens good = record { forms = All-drop IsFormed _ tokens good.forms; ends = ends_drop _ tokens good.ends }
-
-within_good : (most : ℕ) (fresh : Bool) (tokens : List Token) → AreGood tokens → All GoodStatement (statements_within most fresh tokens)
-unfolding statements_within
-within_good zero fresh tokens good = All-nil GoodStatement
-within_good (suc most) fresh tokens good =
-    elim (cases_Bool (nat_eq (length tokens) 0)) [
-      | inl none ↦ rw none (All-nil GoodStatement)
-      | inr some ↦ rw some (All-cons GoodStatement (statement_at fresh tokens) _ (statement_good fresh tokens good)
-          (within_good most (ends_line (statement_at fresh tokens)) (behind fresh tokens) (behind_good fresh tokens good)))
-    ]
-
-statements_good : (tokens : List Token) → AreGood tokens → All GoodStatement (statements_of tokens)
-unfolding statements_of
-statements_good tokens good = within_good (length tokens) true tokens good
+use Rattle.asm_macro.specs.Refusals.{◌>>=◌}
+use Rattle.asm_macro.specs.Places.{RefusedIn}
+use Rattle.asm_macro.specs.Uses.{placed_at, expand_statement}
+use Rattle.asm_macro.specs.Statements.{Statement, statements_of}
+use Rattle.asm_macro.specs.Directives.{keyword_of, Head, head_from, head_in, Named, LineMark, with_head, definition_behind, definition_in, name_in, quoted_in, mark_in}
+use Rattle.asm_macro.specs.Conditions.{is_taken, judged, skipped, conditions_after_else, conditions_after_endif}
+use Rattle.asm_macro.specs.Positions.{moved, mapping_from}
+use Rattle.asm_macro.specs.BuiltIn.{built_in_named, textflag, funcdata, rows_of, is_defined_by, row_definition, with_rows}
+use Rattle.asm_macro.specs.Files.{Context, State, Place, Step, Inclusion, Inner, top, step_at, with_conditions, with_definitions, define, undefine, count_use, include_built_in, include_named, include, open_condition, balanced_place, mapped_place, mark, is_empty, execute, skip, read_directive, rest_of, placed_in, read_plain, end_line, read_statement, end_file, read_entered, read_statements, read_file}
+use Rattle.asm_macro.proofs.RefusalLemmas.{Holds, holds_then, holds_either}
+use Rattle.asm_macro.proofs.FormLemmas.{IsFormed, Formed, IsSound, Sound, LastEnd, Ready, FormedDefinitions, GoodWork, placed_sound, is_end_from, ready_goes, run_sound}
+use Rattle.asm_macro.proofs.FormStatements.{formed_of, AreGood, AreEnded, GoodStatement, statements_good}
 
 -- what a `#define` says
 
@@ -107,33 +38,25 @@ abbrev GoodHead : Option Head → Type 0
 GoodHead None = Unit {0}
 GoodHead (Some head) = Formed head.body
 
-pick_head : (test : Bool) (one other : Option Head) → GoodHead one → GoodHead other → GoodHead (if test then one else other)
-pick_head true one other first second = first
-pick_head false one other first second = second
-
 head_from_good : (wants : Bool) (count : ℕ) (place : Names ℕ) (tokens : List Token) → Formed tokens → GoodHead (head_from wants count place tokens)
 unfolding head_from
 head_from_good wants count place [] formed = tt
 head_from_good true count place (token ∷ tokens) formed =
-    pick_head (is_word token && is_none (place token.text)) _ _
+    holds_either GoodHead (is_word token && is_none (place token.text)) _ _
     (head_from_good false (count + 1) (with_name place token.text (Some count)) tokens (All-tail IsFormed token tokens formed)) tt
 head_from_good false count place (token ∷ tokens) formed =
-    pick_head (is_sign closing token) _ _ (All-tail IsFormed token tokens formed)
-    (pick_head (is_sign comma token) _ _ (head_from_good true count place tokens (All-tail IsFormed token tokens formed)) tt)
+    holds_either GoodHead (is_sign closing token) _ _ (All-tail IsFormed token tokens formed)
+    (holds_either GoodHead (is_sign comma token) _ _ (head_from_good true count place tokens (All-tail IsFormed token tokens formed)) tt)
 
 head_in_good : (tokens : List Token) → Formed tokens → GoodHead (head_in tokens)
 unfolding head_in
 head_in_good [] formed = tt
 head_in_good (token ∷ tokens) formed =
-    pick_head (is_sign closing token) _ _ (All-tail IsFormed token tokens formed) (head_from_good true 0 nothing (token ∷ tokens) formed)
+    holds_either GoodHead (is_sign closing token) _ _ (All-tail IsFormed token tokens formed) (head_from_good true 0 nothing (token ∷ tokens) formed)
 
 abbrev GoodNamed : Option Named → Type 0
 GoodNamed None = Unit {0}
 GoodNamed (Some named) = Formed named.definition.body
-
-pick_named : (test : Bool) (one other : Option Named) → GoodNamed one → GoodNamed other → GoodNamed (if test then one else other)
-pick_named true one other first second = first
-pick_named false one other first second = second
 
 with_head_good : (name : List ℕ) (head : Option Head) → GoodHead head → GoodNamed (with_head name head)
 with_head_good name None good = tt
@@ -143,30 +66,26 @@ behind_named_good : (name : List ℕ) (tokens : List Token) → Formed tokens �
 unfolding definition_behind
 behind_named_good name [] formed = formed
 behind_named_good name (token ∷ tokens) formed =
-    pick_named (is_sign opening token && token.glued) _ _
+    holds_either GoodNamed (is_sign opening token && token.glued) _ _
     (with_head_good name (head_in tokens) (head_in_good tokens (All-tail IsFormed token tokens formed))) formed
 
 definition_good : (tokens : List Token) → Formed tokens → GoodNamed (definition_in tokens)
 unfolding definition_in
 definition_good [] formed = tt
 definition_good (name ∷ tokens) formed =
-    pick_named (is_word name) _ _ (behind_named_good name.text tokens (All-tail IsFormed name tokens formed)) tt
+    holds_either GoodNamed (is_word name) _ _ (behind_named_good name.text tokens (All-tail IsFormed name tokens formed)) tt
 
 -- macros in force
 
-GoodMacro : Option Definition → Type 0
+pub GoodMacro : Option Definition → Type 0
 GoodMacro value = (definition : Definition) → value ≡ Some definition → Formed definition.body
 
-pick_macro : (same : Bool) (value there : Option Definition) → GoodMacro value → GoodMacro there → GoodMacro (if same then value else there)
-pick_macro true value there one other = one
-pick_macro false value there one other = other
-
-named_good : (definitions : Definitions) (name : List ℕ) (value : Option Definition)
+pub named_good : (definitions : Definitions) (name : List ℕ) (value : Option Definition)
     → FormedDefinitions definitions → GoodMacro value → FormedDefinitions (with_name definitions name value)
 unfolding with_name GoodMacro
-named_good definitions name value all one = λ other. pick_macro (bytes_eq name other) value (definitions other) one (all other)
+named_good definitions name value all one = λ other. holds_either GoodMacro (bytes_eq name other) value (definitions other) one (all other)
 
-some_good : (definition : Definition) → Formed definition.body → GoodMacro (Some definition)
+pub some_good : (definition : Definition) → Formed definition.body → GoodMacro (Some definition)
 unfolding GoodMacro
 some_good definition formed = λ other is. let same : definition ≡ other = cc in rw (← same) formed
 
@@ -174,59 +93,39 @@ none_good : GoodMacro None
 unfolding GoodMacro
 none_good = λ other is. cc
 
--- a source's state
+-- a source's state, of which there may be so many tokens with those that may still be made
 
-pub record GoodState (state : State) : Type 0 where
+pub record GoodState (P : ℕ → Type 0) (most : ℕ) (state : State) : Type 0 where
   pub macros : FormedDefinitions state.definitions
-  pub out : GoodOut state.work.out
+  pub work : GoodWork P most state.work
 
-abbrev GoodStateResult : Result State MacroNo → Type 0
-GoodStateResult (Ok state) = GoodState state
-GoodStateResult (Err fault) = Unit {0}
+abbrev pub StateOrRefusal : (ℕ → Type 0) → ℕ → Result State MacroNo → Type 0
+StateOrRefusal P most answer = Holds (GoodState P most) (RefusedIn P) answer
 
-pick_state : (test : Bool) (one other : Result State MacroNo) → GoodStateResult one → GoodStateResult other → GoodStateResult (if test then one else other)
-pick_state true one other first second = first
-pick_state false one other first second = second
+with_macros : (P : ℕ → Type 0) (most : ℕ) (state : State) (definitions : Definitions)
+    → GoodState P most state → FormedDefinitions definitions → GoodState P most (with_definitions state definitions)
+with_macros P most state definitions good all = record { macros = all; work = good.work }
 
-define_good : (pos : Pos) (named : Option Named) (state : State) → GoodNamed named → GoodState state → GoodStateResult (define pos named state)
+define_good : (P : ℕ → Type 0) (most : ℕ) (pos : Pos) (named : Option Named) (state : State)
+    → P pos.file → GoodNamed named → GoodState P most state → StateOrRefusal P most (define pos named state)
 unfolding define
-define_good pos None state body good = tt
-define_good pos (Some named) state body good =
-    pick_state (is_some (state.definitions named.name)) _ _ tt
-    (record { macros = named_good state.definitions named.name (Some named.definition) good.macros (some_good named.definition body); out = good.out })
+define_good P most pos None state here body good = here
+define_good P most pos (Some named) state here body good =
+    holds_either (StateOrRefusal P most) (is_some (state.definitions named.name)) _ _ here
+    (with_macros P most state _ good (named_good state.definitions named.name (Some named.definition) good.macros (some_good named.definition body)))
 
-undefine_good : (pos : Pos) (name : Option (List ℕ)) (state : State) → GoodState state → GoodStateResult (undefine pos name state)
+undefine_good : (P : ℕ → Type 0) (most : ℕ) (pos : Pos) (name : Option (List ℕ)) (state : State)
+    → P pos.file → GoodState P most state → StateOrRefusal P most (undefine pos name state)
 unfolding undefine
-undefine_good pos None state good = tt
-undefine_good pos (Some name) state good = record { macros = named_good state.definitions name None good.macros none_good; out = good.out }
+undefine_good P most pos None state here good = here
+undefine_good P most pos (Some name) state here good = with_macros P most state _ good (named_good state.definitions name None good.macros none_good)
 
-abbrev GoodEntered : Option (List Token) → Type 0
-GoodEntered None = Unit {0}
-GoodEntered (Some tokens) = AreGood tokens
-
-pub record GoodPair (state : State) (entered : Option (List Token)) : Type 0 where
-  pub here : GoodState state
-  pub next : GoodEntered entered
-
-abbrev GoodStep : Result Step MacroNo → Type 0
-GoodStep (Ok step) = GoodPair step.state step.entered
-GoodStep (Err fault) = Unit {0}
-
-abbrev GoodInclusion : Result Inclusion MacroNo → Type 0
-GoodInclusion (Ok inclusion) = GoodPair inclusion.state inclusion.entered
-GoodInclusion (Err fault) = Unit {0}
-
-after_good : (place : Place) (answer : Result State MacroNo) → GoodStateResult answer → GoodStep (after place answer)
-after_good place (Ok state) good = record { here = good; next = tt }
-after_good place (Err fault) good = tt
-
-counted_good : (levels : ℕ) (pos : Pos) (state : State) → GoodState state → GoodStateResult (counted levels pos state)
-counted_good levels pos state good =
-    pick_state (levels == 0) _ _ tt (pick_state (state.work.uses == 0) _ _ tt (record { macros = good.macros; out = good.out }))
-
-enter_good : (entered : Option (List Token)) (answer : Result State MacroNo) → GoodEntered entered → GoodStateResult answer → GoodInclusion (enter entered answer)
-enter_good entered (Ok state) next good = record { here = good; next = next }
-enter_good entered (Err fault) next good = tt
+count_use_good : (P : ℕ → Type 0) (most levels : ℕ) (pos : Pos) (state : State)
+    → P pos.file → GoodState P most state → StateOrRefusal P most (count_use levels pos state)
+count_use_good P most levels pos state here good =
+    holds_either (StateOrRefusal P most) (levels == 0) _ _ here
+    (holds_either (StateOrRefusal P most) (state.work.uses == 0) _ _ here
+    (record { macros = good.macros; work = record { made = record { out = good.work.made.out; count = good.work.made.count }; ends = good.work.ends } }))
 
 -- the built-in files
 
@@ -234,7 +133,7 @@ GoodRow : Row → Type 0
 GoodRow row = Formed row.body
 
 textflag_good : All GoodRow textflag
-unfolding textflag GoodRow number_value number_of digit_value
+unfolding textflag GoodRow number_value number_of
 textflag_good =
     let one : (value : ℕ) (text : List ℕ) → number_value text ≡ Some value → Formed (record { pos = record { file = 0; line = 1 }; glued = false; kind = kinds.Number value; text = text } ∷ [])
     = λ value text is. All-cons IsFormed (record { pos = record { file = 0; line = 1 }; glued = false; kind = kinds.Number value; text = text }) [] is (All-nil IsFormed) in
@@ -248,291 +147,323 @@ rows_good : (built_in : BuiltIn) → All GoodRow (rows_of built_in)
 rows_good Textflag = textflag_good
 rows_good Funcdata = funcdata_good
 
-abbrev GoodDefinitions : Result Definitions MacroNo → Type 0
-GoodDefinitions (Ok definitions) = FormedDefinitions definitions
-GoodDefinitions (Err fault) = Unit {0}
+abbrev pub MacrosOrRefusal : (ℕ → Type 0) → Result Definitions MacroNo → Type 0
+MacrosOrRefusal P answer = Holds FormedDefinitions (RefusedIn P) answer
 
-row_by : (built_in : BuiltIn) (pos : Pos) (definitions : Definitions) (row : Row) (rows : List Row) (there : Option Definition)
-    → definitions row.name ≡ there
-    → GoodDefinitions (with_rows built_in pos (with_name definitions row.name (Some (row_definition built_in row))) rows)
-    → GoodDefinitions (with_rows built_in pos definitions rows)
-    → GoodDefinitions (with_rows built_in pos definitions (row ∷ rows))
+row_by : (P : ℕ → Type 0) (built_in : BuiltIn) (pos : Pos) (definitions : Definitions) (row : Row) (rows : List Row) (there : Option Definition)
+    → definitions row.name ≡ there → P pos.file
+    → MacrosOrRefusal P (with_rows built_in pos (with_name definitions row.name (Some (row_definition built_in row))) rows)
+    → MacrosOrRefusal P (with_rows built_in pos definitions rows)
+    → MacrosOrRefusal P (with_rows built_in pos definitions (row ∷ rows))
 unfolding with_rows
-row_by built_in pos definitions row rows None is new old = rw (is, with_rows) new
-row_by built_in pos definitions row rows (Some definition) is new old =
-    elim (cases_Bool (is_made_by built_in definition.maker)) [
+row_by P built_in pos definitions row rows None is here new old = rw (is, with_rows) new
+row_by P built_in pos definitions row rows (Some definition) is here new old =
+    elim (cases_Bool (is_defined_by built_in definition.origin)) [
       | inl same ↦ rw (is, same, with_rows) old
-      | inr other ↦ rw (is, other, with_rows) tt
+      | inr other ↦ rw (is, other, with_rows) here
     ]
 
-with_rows_good : (built_in : BuiltIn) (pos : Pos) (definitions : Definitions) (rows : List Row) → FormedDefinitions definitions → All GoodRow rows
-    → GoodDefinitions (with_rows built_in pos definitions rows)
+with_rows_good : (P : ℕ → Type 0) (built_in : BuiltIn) (pos : Pos) (definitions : Definitions) (rows : List Row)
+    → P pos.file → FormedDefinitions definitions → All GoodRow rows → MacrosOrRefusal P (with_rows built_in pos definitions rows)
 unfolding with_rows GoodRow
-with_rows_good built_in pos definitions [] all rows = all
-with_rows_good built_in pos definitions (row ∷ more) all rows =
-    row_by built_in pos definitions row more (definitions row.name) refl
-    (with_rows_good built_in pos (with_name definitions row.name (Some (row_definition built_in row))) more
+with_rows_good P built_in pos definitions [] here all rows = all
+with_rows_good P built_in pos definitions (row ∷ more) here all rows =
+    row_by P built_in pos definitions row more (definitions row.name) refl here
+    (with_rows_good P built_in pos (with_name definitions row.name (Some (row_definition built_in row))) more here
     (named_good definitions row.name (Some (row_definition built_in row)) all (some_good (row_definition built_in row) (All-head GoodRow row more rows)))
     (All-tail GoodRow row more rows))
-    (with_rows_good built_in pos definitions more all (All-tail GoodRow row more rows))
+    (with_rows_good P built_in pos definitions more here all (All-tail GoodRow row more rows))
 
-defining_good : (state : State) (answer : Result Definitions MacroNo) → GoodState state → GoodDefinitions answer → GoodStateResult (defining state answer)
-defining_good state (Ok definitions) good all = record { macros = all; out = good.out }
-defining_good state (Err fault) good all = tt
-
-built_in_good : (built_in : BuiltIn) (pos : Pos) (answer : Result State MacroNo) → GoodStateResult answer → GoodStateResult (with_built_in built_in pos answer)
-built_in_good built_in pos (Ok state) good =
-    defining_good state (with_rows built_in pos state.definitions (rows_of built_in)) good (with_rows_good built_in pos state.definitions (rows_of built_in) good.macros (rows_good built_in))
-built_in_good built_in pos (Err fault) good = tt
-
-include_built_in_good : (levels : ℕ) (pos : Pos) (state : State) (named : Option BuiltIn) → GoodState state → GoodStateResult (include_built_in levels pos state named)
+include_built_in_good : (P : ℕ → Type 0) (most levels : ℕ) (pos : Pos) (state : State) (named : Option BuiltIn)
+    → P pos.file → GoodState P most state → StateOrRefusal P most (include_built_in levels pos state named)
 unfolding include_built_in
-include_built_in_good levels pos state None good = tt
-include_built_in_good levels pos state (Some built_in) good = built_in_good built_in pos (counted levels pos state) (counted_good levels pos state good)
+include_built_in_good P most levels pos state None here good = here
+include_built_in_good P most levels pos state (Some built_in) here good =
+    holds_then (GoodState P most) (GoodState P most) (RefusedIn P) (count_use levels pos state)
+    (λ counted. with_rows built_in pos counted.definitions (rows_of built_in) >>= λ definitions. Ok (with_definitions counted definitions))
+    (count_use_good P most levels pos state here good)
+    (λ counted good. holds_then FormedDefinitions (GoodState P most) (RefusedIn P) (with_rows built_in pos counted.definitions (rows_of built_in))
+    (λ definitions. Ok (with_definitions counted definitions))
+    (with_rows_good P built_in pos counted.definitions (rows_of built_in) here good.macros (rows_good built_in))
+    (λ definitions all. with_macros P most counted definitions good all))
 
 -- the files of a build
 
-pub GoodFiles : Names (List Token) → Type 0
-GoodFiles files = (name tokens : _) → files name ≡ Some tokens → AreGood tokens
+unfoldable pub GoodFiles : (ℕ → Type 0) → Names (List Token) → Type 0
+GoodFiles P files = (name : List ℕ) (tokens : List Token) → files name ≡ Some tokens → AreGood P tokens
 
-include_named_good : (levels : ℕ) (pos : Pos) (name : List ℕ) (state : State) (given : Option (List Token))
-    → GoodEntered given → GoodState state → GoodInclusion (include_named levels pos name state given)
-include_named_good levels pos name state (Some tokens) given good = enter_good (Some tokens) (counted levels pos state) given (counted_good levels pos state good)
-include_named_good levels pos name state None given good =
-    enter_good None (include_built_in levels pos state (built_in_named name)) tt (include_built_in_good levels pos state (built_in_named name) good)
+unfoldable pub GoodNumbers : (ℕ → Type 0) → Names ℕ → Type 0
+GoodNumbers P files = (name : List ℕ) (number : ℕ) → files name ≡ Some number → P number
 
-entered_by : (given : Option (List Token)) → ((tokens : List Token) → given ≡ Some tokens → AreGood tokens) → GoodEntered given
-entered_by None all = tt
-entered_by (Some tokens) all = all tokens refl
+pub record GoodContext (P : ℕ → Type 0) (context : Context) : Type 0 where
+  pub includes : GoodFiles P context.includes
+  pub files : GoodNumbers P context.files
 
-include_good : (context : Context) (levels : ℕ) (pos : Pos) (name : Option (List ℕ)) (state : State)
-    → GoodFiles context.includes → GoodState state → GoodInclusion (include context levels pos name state)
+abbrev GoodEntered : (ℕ → Type 0) → Option (List Token) → Type 0
+GoodEntered P None = Unit {0}
+GoodEntered P (Some tokens) = AreGood P tokens
+
+pub record GoodInclusion (P : ℕ → Type 0) (most : ℕ) (inclusion : Inclusion) : Type 0 where
+  pub here : GoodState P most inclusion.state
+  pub next : GoodEntered P inclusion.entered
+
+include_named_good : (P : ℕ → Type 0) (most levels : ℕ) (pos : Pos) (name : List ℕ) (state : State) (given : Option (List Token))
+    → P pos.file → GoodEntered P given → GoodState P most state → Holds (GoodInclusion P most) (RefusedIn P) (include_named levels pos name state given)
+unfolding include_named
+include_named_good P most levels pos name state (Some tokens) here given good =
+    holds_then (GoodState P most) (GoodInclusion P most) (RefusedIn P) (count_use levels pos state) (λ counted. Ok (record { state = counted; entered = Some tokens }))
+    (count_use_good P most levels pos state here good) (λ counted good. record { here = good; next = given })
+include_named_good P most levels pos name state None here given good =
+    holds_then (GoodState P most) (GoodInclusion P most) (RefusedIn P) (include_built_in levels pos state (built_in_named name)) (λ defined. Ok (record { state = defined; entered = None }))
+    (include_built_in_good P most levels pos state (built_in_named name) here good) (λ defined good. record { here = good; next = tt })
+
+entered_by : (P : ℕ → Type 0) (given : Option (List Token)) → ((tokens : List Token) → given ≡ Some tokens → AreGood P tokens) → GoodEntered P given
+entered_by P None all = tt
+entered_by P (Some tokens) all = all tokens refl
+
+include_good : (P : ℕ → Type 0) (most : ℕ) (context : Context) (levels : ℕ) (pos : Pos) (name : Option (List ℕ)) (state : State)
+    → P pos.file → GoodContext P context → GoodState P most state → Holds (GoodInclusion P most) (RefusedIn P) (include context levels pos name state)
 unfolding include GoodFiles
-include_good context levels pos None state files good = tt
-include_good context levels pos (Some name) state files good =
-    include_named_good levels pos name state (context.includes name) (entered_by (context.includes name) (files name)) good
+include_good P most context levels pos None state here files good = here
+include_good P most context levels pos (Some name) state here files good =
+    include_named_good P most levels pos name state (context.includes name) here (entered_by P (context.includes name) (files.includes name)) good
 
-included_at_good : (place : Place) (answer : Result Inclusion MacroNo) → GoodInclusion answer → GoodStep (included_at place answer)
-included_at_good place (Ok inclusion) good = record { here = good.here; next = good.next }
-included_at_good place (Err fault) good = tt
+-- a place in a file
 
-at_place_good : (state : State) (answer : Result Place MacroNo) → GoodState state → GoodStep (at_place state answer)
-at_place_good state (Ok place) good = record { here = good; next = tt }
-at_place_good state (Err fault) good = tt
+abbrev pub GoodMapping : (ℕ → Type 0) → Option Mapping → Type 0
+GoodMapping P None = Unit {0}
+GoodMapping P (Some mapping) = P mapping.file
 
-obey_good : (context : Context) (levels : ℕ) (pos : Pos) (line : ℕ) (words : List Token) (place : Place) (state : State) (keyword : Keyword)
-    → GoodFiles context.includes → Formed words → GoodState state → GoodStep (obey context levels pos line words place state keyword)
-unfolding obey
-obey_good context levels pos line words place state keywords.Define files formed good =
-    after_good place (define pos (definition_in words) state) (define_good pos (definition_in words) state (definition_good words formed) good)
-obey_good context levels pos line words place state keywords.Undef files formed good =
-    after_good place (undefine pos (name_in words) state) (undefine_good pos (name_in words) state good)
-obey_good context levels pos line words place state keywords.Include files formed good =
-    included_at_good place (include context levels pos (quoted_in words) state) (include_good context levels pos (quoted_in words) state files good)
-obey_good context levels pos line words place state keywords.Ifdef files formed good = at_place_good state _ good
-obey_good context levels pos line words place state keywords.Ifndef files formed good = at_place_good state _ good
-obey_good context levels pos line words place state keywords.Else files formed good = at_place_good state _ good
-obey_good context levels pos line words place state keywords.Endif files formed good = at_place_good state _ good
-obey_good context levels pos line words place state keywords.Line files formed good = at_place_good state _ good
-obey_good context levels pos line words place state keywords.Other files formed good = tt
+abbrev GoodConditions : (ℕ → Type 0) → List Condition → Type 0
+GoodConditions P conditions = All (λ condition. P condition.pos.file) conditions
 
-pick_step : (test : Bool) (one other : Result Step MacroNo) → GoodStep one → GoodStep other → GoodStep (if test then one else other)
-pick_step true one other first second = first
-pick_step false one other first second = second
+pub record GoodPlace (P : ℕ → Type 0) (place : Place) : Type 0 where
+  pub mapping : GoodMapping P place.mapping
+  pub conditions : GoodConditions P place.conditions
 
-told_good : (context : Context) (levels : ℕ) (pos : Pos) (line : ℕ) (words : List Token) (place : Place) (state : State) (keyword : Keyword)
-    → GoodFiles context.includes → Formed words → GoodState state → GoodStep (told context levels pos line words place state keyword)
-unfolding told
-told_good context levels pos line words place state keyword files formed good =
-    pick_step (is_taken place.conditions) _ _ (obey_good context levels pos line words place state keyword files formed good)
-    (at_place_good state (skip pos words place keyword) good)
+abbrev PlaceOrRefusal : (ℕ → Type 0) → Result Place MacroNo → Type 0
+PlaceOrRefusal P answer = Holds (GoodPlace P) (RefusedIn P) answer
 
-worked_good : (place : Place) (definitions : Definitions) (answer : Result Work MacroNo) → FormedDefinitions definitions → GoodWork answer → GoodStep (worked place definitions answer)
-worked_good place definitions (Ok work) all good = record { here = record { macros = all; out = good }; next = tt }
-worked_good place definitions (Err fault) all good = tt
+moved_in : (P : ℕ → Type 0) (mapping : Option Mapping) (pos : Pos) → GoodMapping P mapping → P pos.file → P (moved mapping pos).file
+unfolding moved
+moved_in P None pos good here = here
+moved_in P (Some mapping) pos good here = good
 
-placed_last : (mapping : Option Mapping) (levels : ℕ) (first : Token) (tokens : List Token) → EndsWithEnd (first ∷ tokens)
-    → LastEnd (placed_in mapping levels (first ∷ tokens))
-unfolding placed_at is_end
-placed_last mapping levels first [] ends = rw ends refl
-placed_last mapping levels first (next ∷ tokens) ends = placed_last mapping levels next tokens ends
+more_conditions : (P : ℕ → Type 0) (place : Place) (condition : Condition)
+    → GoodPlace P place → P condition.pos.file → GoodPlace P (with_conditions place (condition ∷ place.conditions))
+more_conditions P place condition good here = record {
+  mapping = good.mapping;
+  conditions = All-cons (λ condition. P condition.pos.file) condition place.conditions here good.conditions;
+}
 
-placed_forms : (mapping : Option Mapping) (levels : ℕ) (tokens : List Token) → Formed tokens → FormedPlaced (placed_in mapping levels tokens)
+open_condition_good : (P : ℕ → Type 0) (wanted : Bool) (pos : Pos) (name : Option (List ℕ)) (definitions : Definitions) (place : Place)
+    → P pos.file → GoodPlace P place → PlaceOrRefusal P (open_condition wanted pos name definitions place)
+unfolding open_condition
+open_condition_good P wanted pos None definitions place here good = here
+open_condition_good P wanted pos (Some name) definitions place here good =
+    more_conditions P place (judged pos (if wanted then is_some (definitions name) else not (is_some (definitions name)))) good here
+
+abbrev ConditionsIf : (ℕ → Type 0) → Option (List Condition) → Type 0
+ConditionsIf P None = Unit {0}
+ConditionsIf P (Some conditions) = GoodConditions P conditions
+
+after_else_good : (P : ℕ → Type 0) (alone : Bool) (conditions : List Condition) → GoodConditions P conditions → ConditionsIf P (conditions_after_else alone conditions)
+unfolding conditions_after_else
+after_else_good P alone [] all = tt
+after_else_good P alone (condition ∷ conditions) all =
+    holds_either (ConditionsIf P) (condition.has_else || (condition.judged && not alone)) None (Some (record {
+      pos = condition.pos;
+      judged = condition.judged;
+      taken = condition.judged && not condition.taken;
+      has_else = true;
+    } ∷ conditions)) tt
+    (All-cons (λ condition. P condition.pos.file) (record { pos = condition.pos; judged = condition.judged; taken = condition.judged && not condition.taken; has_else = true }) conditions
+    (All-head (λ condition. P condition.pos.file) condition conditions all) (All-tail (λ condition. P condition.pos.file) condition conditions all))
+
+after_endif_good : (P : ℕ → Type 0) (alone : Bool) (conditions : List Condition) → GoodConditions P conditions → ConditionsIf P (conditions_after_endif alone conditions)
+unfolding conditions_after_endif
+after_endif_good P alone [] all = tt
+after_endif_good P alone (condition ∷ conditions) all =
+    holds_either (ConditionsIf P) (condition.judged && not alone) None (Some conditions) tt (All-tail (λ condition. P condition.pos.file) condition conditions all)
+
+balanced_good : (P : ℕ → Type 0) (pos : Pos) (place : Place) (conditions : Option (List Condition))
+    → P pos.file → GoodPlace P place → ConditionsIf P conditions → PlaceOrRefusal P (balanced_place pos place conditions)
+balanced_good P pos place None here good all = here
+balanced_good P pos place (Some conditions) here good all = record { mapping = good.mapping; conditions = all }
+
+mapped_good : (P : ℕ → Type 0) (place : Place) (number line : ℕ) (file : Option ℕ)
+    → GoodPlace P place → ((found : ℕ) → file ≡ Some found → P found) → GoodPlace P (mapped_place place number line file)
+unfolding mapping_from
+mapped_good P place number line None good all = good
+mapped_good P place number line (Some file) good all = record { mapping = all file refl; conditions = good.conditions }
+
+mark_good : (P : ℕ → Type 0) (context : Context) (pos : Pos) (line : ℕ) (said : Option LineMark) (place : Place)
+    → P pos.file → GoodContext P context → GoodPlace P place → PlaceOrRefusal P (mark context pos line said place)
+unfolding mark GoodNumbers
+mark_good P context pos line None place here files good = here
+mark_good P context pos line (Some said) place here files good =
+    mapped_good P place said.number line (context.files said.name) good (files.files said.name)
+
+-- a statement
+
+pub record GoodStep (P : ℕ → Type 0) (most : ℕ) (step : Step) : Type 0 where
+  pub place : GoodPlace P step.place
+  pub here : GoodState P most step.state
+  pub next : GoodEntered P step.entered
+
+abbrev StepOrRefusal : (ℕ → Type 0) → ℕ → Result Step MacroNo → Type 0
+StepOrRefusal P most answer = Holds (GoodStep P most) (RefusedIn P) answer
+
+state_step : (P : ℕ → Type 0) (most : ℕ) (place : Place) (answer : Result State MacroNo)
+    → GoodPlace P place → StateOrRefusal P most answer → StepOrRefusal P most (answer >>= λ after. step_at place after)
+state_step P most place answer there good =
+    holds_then (GoodState P most) (GoodStep P most) (RefusedIn P) answer (λ after. step_at place after) good
+    (λ state good. record { place = there; here = good; next = tt })
+
+place_step : (P : ℕ → Type 0) (most : ℕ) (state : State) (answer : Result Place MacroNo)
+    → GoodState P most state → PlaceOrRefusal P answer → StepOrRefusal P most (answer >>= λ after. step_at after state)
+place_step P most state answer here good =
+    holds_then (GoodPlace P) (GoodStep P most) (RefusedIn P) answer (λ after. step_at after state) good
+    (λ place good. record { place = good; here = here; next = tt })
+
+execute_good : (P : ℕ → Type 0) (most : ℕ) (context : Context) (levels : ℕ) (pos : Pos) (line : ℕ) (words : List Token) (place : Place) (state : State) (keyword : Keyword)
+    → P pos.file → GoodContext P context → Formed words → GoodPlace P place → GoodState P most state
+    → StepOrRefusal P most (execute context levels pos line words place state keyword)
+unfolding execute
+execute_good P most context levels pos line words place state keywords.Define here files formed there good =
+    state_step P most place (define pos (definition_in words) state) there (define_good P most pos (definition_in words) state here (definition_good words formed) good)
+execute_good P most context levels pos line words place state keywords.Undef here files formed there good =
+    state_step P most place (undefine pos (name_in words) state) there (undefine_good P most pos (name_in words) state here good)
+execute_good P most context levels pos line words place state keywords.Include here files formed there good =
+    holds_then (GoodInclusion P most) (GoodStep P most) (RefusedIn P) (include context levels pos (quoted_in words) state)
+    (λ inclusion. Ok (record { place = place; state = inclusion.state; entered = inclusion.entered }))
+    (include_good P most context levels pos (quoted_in words) state here files good)
+    (λ inclusion good. record { place = there; here = good.here; next = good.next })
+execute_good P most context levels pos line words place state keywords.Ifdef here files formed there good =
+    place_step P most state (open_condition true pos (name_in words) state.definitions place) good (open_condition_good P true pos (name_in words) state.definitions place here there)
+execute_good P most context levels pos line words place state keywords.Ifndef here files formed there good =
+    place_step P most state (open_condition false pos (name_in words) state.definitions place) good (open_condition_good P false pos (name_in words) state.definitions place here there)
+execute_good P most context levels pos line words place state keywords.Else here files formed there good =
+    place_step P most state (balanced_place pos place (conditions_after_else (is_empty words) place.conditions)) good
+    (balanced_good P pos place (conditions_after_else (is_empty words) place.conditions) here there (after_else_good P (is_empty words) place.conditions there.conditions))
+execute_good P most context levels pos line words place state keywords.Endif here files formed there good =
+    place_step P most state (balanced_place pos place (conditions_after_endif (is_empty words) place.conditions)) good
+    (balanced_good P pos place (conditions_after_endif (is_empty words) place.conditions) here there (after_endif_good P (is_empty words) place.conditions there.conditions))
+execute_good P most context levels pos line words place state keywords.Line here files formed there good =
+    place_step P most state (mark context pos line (mark_in words) place) good (mark_good P context pos line (mark_in words) place here files there)
+execute_good P most context levels pos line words place state keywords.Other here files formed there good = here
+
+skip_good : (P : ℕ → Type 0) (pos : Pos) (words : List Token) (place : Place) (keyword : Keyword)
+    → P pos.file → GoodPlace P place → PlaceOrRefusal P (skip pos words place keyword)
+unfolding skip
+skip_good P pos words place keywords.Define here there = there
+skip_good P pos words place keywords.Undef here there = there
+skip_good P pos words place keywords.Include here there = there
+skip_good P pos words place keywords.Ifdef here there = more_conditions P place (skipped pos) there here
+skip_good P pos words place keywords.Ifndef here there = more_conditions P place (skipped pos) there here
+skip_good P pos words place keywords.Else here there =
+    balanced_good P pos place (conditions_after_else (is_empty words) place.conditions) here there (after_else_good P (is_empty words) place.conditions there.conditions)
+skip_good P pos words place keywords.Endif here there =
+    balanced_good P pos place (conditions_after_endif (is_empty words) place.conditions) here there (after_endif_good P (is_empty words) place.conditions there.conditions)
+skip_good P pos words place keywords.Line here there = there
+skip_good P pos words place keywords.Other here there = there
+
+directive_good : (P : ℕ → Type 0) (most : ℕ) (context : Context) (levels : ℕ) (pos : Pos) (line : ℕ) (words : List Token) (place : Place) (state : State) (keyword : Keyword)
+    → P pos.file → GoodContext P context → Formed words → GoodPlace P place → GoodState P most state
+    → StepOrRefusal P most (read_directive context levels pos line words place state keyword)
+unfolding read_directive
+directive_good P most context levels pos line words place state keyword here files formed there good =
+    holds_either (StepOrRefusal P most) (is_taken place.conditions) _ _
+    (execute_good P most context levels pos line words place state keyword here files formed there good)
+    (place_step P most state (skip pos words place keyword) good (skip_good P pos words place keyword here there))
+
+kind_at : (pos : Pos) (levels : ℕ) (token : Token) → token.kind ≡ kinds.End → is_end (placed_at pos levels token).token ≡ true
 unfolding placed_at
-placed_forms mapping levels tokens formed =
-    All-map (λ placed. IsFormed placed.token) (λ token. placed_at (moved mapping token.pos) levels token) tokens (λ k d inside. formed k d inside)
+kind_at pos levels token is = is_end_from (record token { pos = pos }) is
 
-plain_good : (levels : ℕ) (pos : Pos) (first : Token) (tokens : List Token) (place : Place) (state : State)
-    → AreGood (first ∷ tokens) → GoodState state → GoodStep (plain levels pos (first ∷ tokens) place state)
-unfolding plain
-plain_good levels pos first tokens place state whole good =
-    let pending = placed_in place.mapping levels (first ∷ tokens) in
-    let ready : Ready pending = record { forms = placed_forms place.mapping levels (first ∷ tokens) whole.forms; last = placed_last place.mapping levels first tokens whole.ends } in
-    pick_step (is_taken place.conditions) _ _
-    (worked_good place state.definitions (expanded state.definitions pos pending state.work) good.macros
-    (run_formed state.work.uses state.definitions pos None pending state.work good.macros (ready_goes pending state.work.out ready) good.out.forms))
-    (record { here = good; next = tt })
+last_end : (mapping : Option Mapping) (levels : ℕ) (tokens : List Token) → AreEnded tokens → LastEnd (placed_in mapping levels tokens)
+last_end mapping levels [] ended = absurd ended
+last_end mapping levels (token ∷ []) ended = kind_at (moved mapping token.pos) levels token ended
+last_end mapping levels (token ∷ next ∷ tokens) ended = last_end mapping levels (next ∷ tokens) ended
 
-rest_good : (tokens : List Token) → Formed tokens → Formed (rest_of tokens)
-rest_good [] formed = formed
-rest_good (token ∷ tokens) formed = All-tail IsFormed token tokens formed
+placed_ready : (P : ℕ → Type 0) (mapping : Option Mapping) (levels : ℕ) (tokens : List Token)
+    → GoodMapping P mapping → Sound P tokens → AreEnded tokens → Ready P (placed_in mapping levels tokens)
+placed_ready P mapping levels tokens good sound ended = record {
+  forms = All-map (λ placed. IsSound P placed.token) (λ token. placed_at (moved mapping token.pos) levels token) tokens
+      (λ k d inside. placed_sound P _ levels _ (moved_in P mapping _ good (sound k d inside).place) (sound k d inside).form);
+  last = last_end mapping levels tokens ended;
+}
 
-read_good : (context : Context) (levels : ℕ) (is_directive : Bool) (tokens : List Token) (place : Place) (state : State)
-    → GoodFiles context.includes → Formed tokens → (is_directive ≡ false → EndsWithEnd tokens) → GoodState state
-    → GoodStep (read context levels is_directive tokens place state)
-unfolding read
-read_good context levels is_directive [] place state files formed ends good = record { here = good; next = tt }
-read_good context levels true (first ∷ tokens) place state files formed ends good =
-    told_good context levels _ _ _ place state _ files
-    (rest_good (before_first is_newline tokens) (All-take IsFormed _ tokens (All-tail IsFormed first tokens formed))) good
-read_good context levels false (first ∷ tokens) place state files formed ends good =
-    plain_good levels _ first tokens place state (record { forms = formed; ends = ends refl }) good
+plain_good : (P : ℕ → Type 0) (most levels : ℕ) (pos : Pos) (tokens : List Token) (place : Place) (state : State)
+    → P pos.file → Sound P tokens → AreEnded tokens → GoodPlace P place → GoodState P most state → StepOrRefusal P most (read_plain levels pos tokens place state)
+unfolding read_plain
+plain_good P most levels pos tokens place state here sound ended there good =
+    holds_either (StepOrRefusal P most) (is_taken place.conditions) _ _
+    (holds_then (GoodWork P most) (GoodStep P most) (RefusedIn P) (expand_statement state.definitions pos (placed_in place.mapping levels tokens) state.work)
+    (λ work. step_at place (record { definitions = state.definitions; work = work }))
+    (run_sound P most state.work.uses state.definitions pos None (placed_in place.mapping levels tokens) state.work here good.macros
+    (ready_goes P (placed_in place.mapping levels tokens) state.work.out (placed_ready P place.mapping levels tokens there.mapping sound ended)) good.work.made)
+    (λ work made. record { place = there; here = record { macros = good.macros; work = made }; next = tt }))
+    (record { place = there; here = good; next = tt })
 
-at_end_good : (conditions : List Condition) (state : State) → GoodState state → GoodStateResult (at_end conditions state)
-at_end_good [] state good = good
-at_end_good (condition ∷ conditions) state good = tt
+rest_formed : (words : List Token) → Formed words → Formed (rest_of words)
+rest_formed [] formed = formed
+rest_formed (word ∷ words) formed = All-tail IsFormed word words formed
 
-Reads : (List Token → State → Result State MacroNo) → Type 0
-Reads next = (tokens : List Token) (state : State) → AreGood tokens → GoodState state → GoodStateResult (next tokens state)
+statement_good : (P : ℕ → Type 0) (most : ℕ) (context : Context) (levels : ℕ) (is_directive : Bool) (tokens : List Token) (place : Place) (state : State)
+    → GoodContext P context → Sound P tokens → (is_directive ≡ false → AreEnded tokens) → GoodPlace P place → GoodState P most state
+    → StepOrRefusal P most (read_statement context levels is_directive tokens place state)
+unfolding read_statement
+statement_good P most context levels true [] place state files sound ends there good = record { place = there; here = good; next = tt }
+statement_good P most context levels false [] place state files sound ends there good = record { place = there; here = good; next = tt }
+statement_good P most context levels true (first ∷ tokens) place state files sound ends there good =
+    let words : List Token = before_first is_newline tokens in
+    directive_good P most context levels (moved place.mapping first.pos) (end_line first (first ∷ tokens)) (rest_of words) place state (keyword_of words)
+    (moved_in P place.mapping first.pos there.mapping (All-head (IsSound P) first tokens sound).place) files
+    (rest_formed words (All-take IsFormed _ tokens (formed_of P tokens (All-tail (IsSound P) first tokens sound)))) there good
+statement_good P most context levels false (first ∷ tokens) place state files sound ends there good =
+    plain_good P most levels (moved place.mapping first.pos) (first ∷ tokens) place state
+    (moved_in P place.mapping first.pos there.mapping (All-head (IsSound P) first tokens sound).place) sound (ends refl) there good
 
-walk_below : (next : List Token → State → Result State MacroNo) (context : Context) (levels : ℕ) (statement : Statement) (statements : List Statement) (place : Place) (state : State) (step : Step) (tokens : List Token) (below : Result State MacroNo)
-    → read context levels statement.directive statement.tokens place state ≡ Ok step → step.entered ≡ Some tokens → next tokens step.state ≡ below
-    → ((left : State) → below ≡ Ok left → GoodStateResult (walk next context levels statements step.place left))
-    → GoodStateResult (walk next context levels (statement ∷ statements) place state)
-unfolding walk
-walk_below next context levels statement statements place state step tokens (Err fault) is some below on = rw (is, walk, some, below) tt
-walk_below next context levels statement statements place state step tokens (Ok left) is some below on = rw (is, walk, some, below) (on left refl)
+-- a file
 
-walk_entered : (next : List Token → State → Result State MacroNo) (context : Context) (levels : ℕ) (statement : Statement) (statements : List Statement) (place : Place) (state : State) (step : Step) (entered : Option (List Token))
-    → read context levels statement.directive statement.tokens place state ≡ Ok step → step.entered ≡ entered
-    → GoodStateResult (walk next context levels statements step.place step.state)
-    → ((tokens : List Token) (left : State) → entered ≡ Some tokens → next tokens step.state ≡ Ok left → GoodStateResult (walk next context levels statements step.place left))
-    → GoodStateResult (walk next context levels (statement ∷ statements) place state)
-unfolding walk
-walk_entered next context levels statement statements place state step None is none on below = rw (is, walk, none) on
-walk_entered next context levels statement statements place state step (Some tokens) is some on below =
-    walk_below next context levels statement statements place state step tokens (next tokens step.state) is some refl (λ left ends. below tokens left refl ends)
+end_good : (P : ℕ → Type 0) (most : ℕ) (conditions : List Condition) (state : State)
+    → GoodConditions P conditions → GoodState P most state → StateOrRefusal P most (end_file conditions state)
+end_good P most [] state all good = good
+end_good P most (condition ∷ conditions) state all good = All-head (λ condition. P condition.pos.file) condition conditions all
 
-walk_by : (next : List Token → State → Result State MacroNo) (context : Context) (levels : ℕ) (statement : Statement) (statements : List Statement) (place : Place) (state : State) (answer : Result Step MacroNo)
-    → read context levels statement.directive statement.tokens place state ≡ answer → GoodStep answer → Reads next
-    → ((place : Place) (state : State) → GoodState state → GoodStateResult (walk next context levels statements place state))
-    → GoodStateResult (walk next context levels (statement ∷ statements) place state)
-unfolding walk Reads
-walk_by next context levels statement statements place state (Err fault) is good reads on = rw (is, walk) tt
-walk_by next context levels statement statements place state (Ok step) is good reads on =
-    walk_entered next context levels statement statements place state step step.entered is refl (on step.place step.state good.here)
-    (λ tokens left some ends. on step.place left
-    (let whole : AreGood tokens = rw some at good.next in
-    let below : GoodStateResult (next tokens step.state) = reads tokens step.state whole good.here in
-    rw ends at below))
+Reads : (ℕ → Type 0) → ℕ → Inner → Type 0
+Reads P most inner = (tokens : List Token) (state : State) → AreGood P tokens → GoodState P most state → StateOrRefusal P most (inner tokens state)
 
-walk_good : (next : List Token → State → Result State MacroNo) (context : Context) (levels : ℕ) (statements : List Statement) (place : Place) (state : State)
-    → Reads next → GoodFiles context.includes → All GoodStatement statements → GoodState state
-    → GoodStateResult (walk next context levels statements place state)
-unfolding walk
-walk_good next context levels [] place state reads files all good = at_end_good place.conditions state good
-walk_good next context levels (statement ∷ statements) place state reads files all good =
-    let here : GoodStatement statement = All-head GoodStatement statement statements all in
-    walk_by next context levels statement statements place state (read context levels statement.directive statement.tokens place state) refl
-    (read_good context levels statement.directive statement.tokens place state files here.forms here.ends good) reads
-    (λ place state good. walk_good next context levels statements place state reads files (All-tail GoodStatement statement statements all) good)
+entered_good : (P : ℕ → Type 0) (most : ℕ) (inner : Inner) (entered : Option (List Token)) (state : State)
+    → Reads P most inner → GoodEntered P entered → GoodState P most state → StateOrRefusal P most (read_entered inner entered state)
+unfolding Reads
+entered_good P most inner None state reads whole good = good
+entered_good P most inner (Some tokens) state reads whole good = reads tokens state whole good
 
-file_good : (levels : ℕ) (context : Context) (tokens : List Token) (state : State)
-    → GoodFiles context.includes → AreGood tokens → GoodState state → GoodStateResult (file levels context tokens state)
-unfolding file Reads
-file_good zero context tokens state files whole good =
-    walk_good (λ tokens state. Ok state) context zero (statements_of tokens) top state (λ tokens state whole good. good) files (statements_good tokens whole) good
-file_good (suc levels) context tokens state files whole good =
-    walk_good (file levels context) context (suc levels) (statements_of tokens) top state (λ tokens state whole good. file_good levels context tokens state files whole good) files (statements_good tokens whole) good
+statements_read : (P : ℕ → Type 0) (most : ℕ) (inner : Inner) (context : Context) (levels : ℕ) (statements : List Statement) (place : Place) (state : State)
+    → Reads P most inner → GoodContext P context → All (GoodStatement P) statements → GoodPlace P place → GoodState P most state
+    → StateOrRefusal P most (read_statements inner context levels statements place state)
+unfolding read_statements
+statements_read P most inner context levels [] place state reads files all there good = end_good P most place.conditions state there.conditions good
+statements_read P most inner context levels (statement ∷ statements) place state reads files all there good =
+    let first : GoodStatement P statement = All-head (GoodStatement P) statement statements all in
+    holds_then (GoodStep P most) (GoodState P most) (RefusedIn P) (read_statement context levels statement.directive statement.tokens place state)
+    (λ step. read_entered inner step.entered step.state >>= λ after. read_statements inner context levels statements step.place after)
+    (statement_good P most context levels statement.directive statement.tokens place state files first.sound first.ends there good)
+    (λ step made. holds_then (GoodState P most) (GoodState P most) (RefusedIn P) (read_entered inner step.entered step.state)
+    (λ after. read_statements inner context levels statements step.place after)
+    (entered_good P most inner step.entered step.state reads made.next made.here)
+    (λ after good. statements_read P most inner context levels statements step.place after reads files (All-tail (GoodStatement P) statement statements all) made.place good))
 
--- a build
+top_good : (P : ℕ → Type 0) → GoodPlace P top
+top_good P = record { mapping = tt; conditions = All-nil (λ condition. P condition.pos.file) }
 
-are_good : (tokens : Tokens) → AreTokens tokens → AreGood tokens.list
-are_good tokens are = record { forms = are.forms; ends = are.ended }
-
-pick_files : (test : Bool) (one other : Names (List Token)) → GoodFiles one → GoodFiles other → GoodFiles (if test then one else other)
-pick_files true one other first second = first
-pick_files false one other first second = second
-
-file_pick : (same : Bool) (value there : Option (List Token)) (tokens : List Token)
-    → (value ≡ Some tokens → AreGood tokens) → (there ≡ Some tokens → AreGood tokens) → (if same then value else there) ≡ Some tokens → AreGood tokens
-file_pick true value there tokens one other is = one is
-file_pick false value there tokens one other is = other is
-
-put_files : (files : Names (List Token)) (name : List ℕ) (tokens : List Token) → GoodFiles files → AreGood tokens → GoodFiles (with_name files name (Some tokens))
-unfolding with_name GoodFiles
-put_files files name tokens all good = λ other found. file_pick (bytes_eq name other) (Some tokens) (files other) found
-    (λ is. let same : tokens ≡ found = cc in rw (← same) good) (all other found)
-
-included_good : (files : Names (List Token)) (includes : List (List ℕ × Tokens)) → GoodFiles files → All (λ include. AreTokens include.1) includes → GoodFiles (included files includes)
-unfolding included
-included_good files [] all good = all
-included_good files (include ∷ includes) all good =
-    included_good (if is_some (files include.0) then files else with_name files include.0 (Some include.1.list)) includes
-    (pick_files (is_some (files include.0)) files (with_name files include.0 (Some include.1.list)) all
-    (put_files files include.0 include.1.list all (are_good include.1 (All-head (λ include. AreTokens include.1) include includes good))))
-    (All-tail (λ include. AreTokens include.1) include includes good)
-
-no_files : GoodFiles nothing
-unfolding GoodFiles
-no_files = λ name tokens is. cc
-
-pick_definitions : (test : Bool) (one other : Result Definitions MacroNo) → GoodDefinitions one → GoodDefinitions other → GoodDefinitions (if test then one else other)
-pick_definitions true one other first second = first
-pick_definitions false one other first second = second
-
-defined_good : (definitions : Definitions) (defines : List (List ℕ × Tokens)) → FormedDefinitions definitions → All (λ define. AreTokens define.1) defines → GoodDefinitions (defined definitions defines)
-unfolding defined
-defined_good definitions [] all good = all
-defined_good definitions (define ∷ defines) all good =
-    pick_definitions (is_some (definitions define.0)) _ _ tt
-    (defined_good (with_name definitions define.0 (Some (value_definition define.1))) defines
-    (named_good definitions define.0 (Some (value_definition define.1)) all
-    (some_good (value_definition define.1) (All-take IsFormed _ define.1.list (All-head (λ define. AreTokens define.1) define defines good).forms)))
-    (All-tail (λ define. AreTokens define.1) define defines good))
-
-abbrev GoodAll : Result (List Tokens) MacroNo → Type 0
-GoodAll (Ok all) = All AreTokens all
-GoodAll (Err fault) = Unit {0}
-
-sources_by : (nesting : ℕ) (context : Context) (definitions : Definitions) (room uses : ℕ) (done : List Tokens) (tokens : Tokens) (sources : List Tokens) (answer : Result State MacroNo)
-    → file nesting context tokens.list (started definitions room uses) ≡ answer
-    → ((state : State) → answer ≡ Ok state → GoodAll (sources_from nesting context definitions state.work.room state.work.uses (done ++ record { file = tokens.file; list = state.work.out } ∷ []) sources))
-    → GoodAll (sources_from nesting context definitions room uses done (tokens ∷ sources))
-unfolding sources_from
-sources_by nesting context definitions room uses done tokens sources (Err fault) is on = rw (is, sources_from) tt
-sources_by nesting context definitions room uses done tokens sources (Ok state) is on = rw (is, sources_from) (on state refl)
-
-state_out : (answer : Result State MacroNo) (state : State) → answer ≡ Ok state → GoodStateResult answer → GoodState state
-state_out answer state is good = rw is at good
-
-sources_good : (nesting : ℕ) (context : Context) (definitions : Definitions) (room uses : ℕ) (done sources : List Tokens)
-    → GoodFiles context.includes → FormedDefinitions definitions → All AreTokens done → All AreTokens sources
-    → GoodAll (sources_from nesting context definitions room uses done sources)
-unfolding sources_from
-sources_good nesting context definitions room uses done [] files all ready good = ready
-sources_good nesting context definitions room uses done (tokens ∷ sources) files all ready good =
-    sources_by nesting context definitions room uses done tokens sources (file nesting context tokens.list (started definitions room uses)) refl
-    (λ state is.
-    let left : GoodState state = state_out (file nesting context tokens.list (started definitions room uses)) state is
-    (file_good nesting context tokens.list (started definitions room uses) files (are_good tokens (All-head AreTokens tokens sources good))
-    (record { macros = all; out = record { forms = All-nil IsFormed; ends = tt } })) in
-    sources_good nesting context definitions state.work.room state.work.uses (done ++ record { file = tokens.file; list = state.work.out } ∷ []) sources files all
-    (All-push AreTokens done (record { file = tokens.file; list = state.work.out }) ready (record { forms = left.out.forms; ended = left.out.ends }))
-    (All-tail AreTokens tokens sources good))
-
-from_good : (limits : Limits) (context : Context) (sources : List Tokens) (answer : Result Definitions MacroNo)
-    → GoodFiles context.includes → GoodDefinitions answer → All AreTokens sources → GoodAll (expanded_from limits context sources answer)
-from_good limits context sources (Err fault) files all good = tt
-from_good limits context sources (Ok definitions) files all good =
-    sources_good limits.nesting context definitions limits.tokens limits.uses [] sources files all (All-nil AreTokens) good
-
-pub expansion_good : (limits : Limits) (sources : List Tokens) (includes defines : List (List ℕ × Tokens)) (all : List Tokens)
-    → All AreTokens sources → All (λ include. AreTokens include.1) includes → All (λ define. AreTokens define.1) defines
-    → expansion limits sources includes defines ≡ Ok all → All AreTokens all
-unfolding expansion
-expansion_good limits sources includes defines all one two three is =
-    let good : GoodAll (expansion limits sources includes defines)
-    = from_good limits (context_for sources includes defines) sources (defined nothing defines) (included_good nothing includes no_files two)
-    (defined_good nothing defines (λ name definition is. cc) three) one in
-    rw is at good
+pub file_good : (P : ℕ → Type 0) (most levels : ℕ) (context : Context) (tokens : List Token) (state : State)
+    → GoodContext P context → AreGood P tokens → GoodState P most state → StateOrRefusal P most (read_file levels context tokens state)
+unfolding read_file Reads
+file_good P most zero context tokens state files whole good =
+    statements_read P most (λ tokens state. Ok state) context zero (statements_of tokens) top state (λ tokens state whole good. good) files (statements_good P tokens whole) (top_good P) good
+file_good P most (suc levels) context tokens state files whole good =
+    statements_read P most (read_file levels context) context (suc levels) (statements_of tokens) top state
+    (λ tokens state whole good. file_good P most levels context tokens state files whole good) files (statements_good P tokens whole) (top_good P) good

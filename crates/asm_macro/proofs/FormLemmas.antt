@@ -1,6 +1,7 @@
--- What is read and put out has the form of tokens: statements and their uses.
-use Rattle.std.proofs.Common.{◌≡◌, ℕ, zero, suc, ◌-◌, ◌<◌, ◌&&◌, ◌==◌, nat_eq, Bool, true, false, List, [], ◌∷◌, ◌++◌, length, get_or, All, Option, Some, None, Result, Ok, Err, inl, inr, refl, sym, ◌∙◌, if◌then◌else◌, arith}
+-- What is read and put out has the form of tokens and stands in one of these files: statements and their uses.
+use Rattle.std.proofs.Common.{◌≡◌, ℕ, zero, suc, ◌+◌, ◌-◌, ◌<◌, ◌&&◌, ◌==◌, nat_eq, Bool, true, false, List, [], ◌∷◌, ◌++◌, length, get_or, All, Option, Some, None, Result, inl, inr, refl, sym, ◌∙◌, if◌then◌else◌, arith, length-append}
 use Rattle.std.proofs.lemmas.Bool.{cases_Bool, cases_lt}
+use Rattle.std.proofs.lemmas.Bool.Decides.{nat_tests}
 use Rattle.std.proofs.lemmas.List.Elements.{All-nil, All-cons, All-head, All-tail, All-append, All-push, All-map, All-get_or}
 use Rattle.std.proofs.Math.ListN.{get_or-eq_default}
 use Rattle.goasm_base.specs.declared.pos.Pos.{Pos}
@@ -13,10 +14,14 @@ use Rattle.asm_macro.specs.declared.arguments.Part.{Part}
 use Rattle.asm_macro.specs.declared.arguments.Part.TheVariants.{End, Close, Comma, Inside}
 use Rattle.asm_macro.specs.declared.refusal.MacroNo.{MacroNo}
 use Rattle.asm_macro.specs.declared.cause.Cause.{Cause}
+use Rattle.asm_macro.specs.declared.cause.Cause.TheVariants.{ArgumentCount, MissingArguments, Nesting, TooMany}
 use Rattle.asm_macro.specs.Tokens.{is_word_kind, is_sign_kind, is_end_kind, is_word, is_end, is_sign, opening}
 use Rattle.asm_macro.specs.Definitions.{Parameters, Definition, Definitions, in_force}
 use Rattle.asm_macro.specs.Arguments.{Arguments, part_of, arguments_from, arguments_behind, taken_by, fit}
-use Rattle.asm_macro.specs.Uses.{Work, Read, Front, Ended, Full, Met, placed_at, parameter_in, standing, filled, use_with, use_of, front, ended, used, run}
+use Rattle.asm_macro.specs.Refusals.{lower, refusal}
+use Rattle.asm_macro.specs.Places.{RefusedIn}
+use Rattle.asm_macro.specs.Uses.{Work, Read, Front, Ended, Full, Met, placed_at, parameter_in, standing, filled, use_with, use_of, passed, front, ended, with_uses, run}
+use Rattle.asm_macro.proofs.RefusalLemmas.{Holds, holds_either}
 use Rattle.asm_macro.proofs.UseLemmas.{run_ended, run_full, run_passed, run_next}
 
 abbrev pub IsFormed : Token → Type 0
@@ -25,8 +30,16 @@ IsFormed token = HasForm token.kind token.text
 abbrev pub Formed : List Token → Type 0
 Formed tokens = All IsFormed tokens
 
-abbrev pub FormedPlaced : List Placed → Type 0
-FormedPlaced pending = All (λ placed. IsFormed placed.token) pending
+-- a token that has a form, in one of these files
+pub record IsSound (P : ℕ → Type 0) (token : Token) : Type 0 where
+  pub form : IsFormed token
+  pub place : P token.pos.file
+
+abbrev pub Sound : (ℕ → Type 0) → List Token → Type 0
+Sound P tokens = All (IsSound P) tokens
+
+abbrev pub SoundPlaced : (ℕ → Type 0) → List Placed → Type 0
+SoundPlaced P pending = All (λ placed. IsSound P placed.token) pending
 
 -- the last token is an end
 abbrev pub LastEnd : List Placed → Type 0
@@ -35,8 +48,8 @@ LastEnd (placed ∷ []) = is_end placed.token ≡ true
 LastEnd (placed ∷ next ∷ rest) = LastEnd (next ∷ rest)
 
 -- what is left of a statement before its end
-pub record Ready (pending : List Placed) : Type 0 where
-  pub forms : FormedPlaced pending
+pub record Ready (P : ℕ → Type 0) (pending : List Placed) : Type 0 where
+  pub forms : SoundPlaced P pending
   pub last : LastEnd pending
 
 end_kind : (kind : Kind) → is_end_kind kind ≡ true → kind ≡ kinds.End
@@ -80,9 +93,9 @@ last_rest : (placed : Placed) (rest : List Placed) → is_end placed.token ≡ f
 last_rest placed [] goes last = let no : true ≡ false = sym last ∙ goes in cc
 last_rest placed (next ∷ rest) goes last = last
 
-ready_rest : (placed : Placed) (rest : List Placed) → is_end placed.token ≡ false → Ready (placed ∷ rest) → Ready rest
-ready_rest placed rest goes ready = record {
-  forms = All-tail (λ placed. IsFormed placed.token) placed rest ready.forms;
+ready_rest : (P : ℕ → Type 0) (placed : Placed) (rest : List Placed) → is_end placed.token ≡ false → Ready P (placed ∷ rest) → Ready P rest
+ready_rest P placed rest goes ready = record {
+  forms = All-tail (λ placed. IsSound P placed.token) placed rest ready.forms;
   last = last_rest placed rest goes ready.last;
 }
 
@@ -94,159 +107,162 @@ last_append : (one rest : List Placed) → LastEnd rest → LastEnd (one ++ rest
 last_append [] rest last = last
 last_append (placed ∷ one) rest last = last_cons placed (one ++ rest) (last_append one rest last)
 
-ready_append : (one rest : List Placed) → FormedPlaced one → Ready rest → Ready (one ++ rest)
-ready_append one rest forms ready = record {
-  forms = All-append (λ placed. IsFormed placed.token) one rest forms ready.forms;
+ready_append : (P : ℕ → Type 0) (one rest : List Placed) → SoundPlaced P one → Ready P rest → Ready P (one ++ rest)
+ready_append P one rest forms ready = record {
+  forms = All-append (λ placed. IsSound P placed.token) one rest forms ready.forms;
   last = last_append one rest ready.last;
 }
 
-pub record ReadyArguments (arguments : Arguments) : Type 0 where
-  pub lists : All FormedPlaced arguments.lists
-  pub rest : Ready arguments.rest
+pub record ReadyArguments (P : ℕ → Type 0) (arguments : Arguments) : Type 0 where
+  pub lists : All (SoundPlaced P) arguments.lists
+  pub rest : Ready P arguments.rest
 
-abbrev pub GoodArguments : Option Arguments → Type 0
-GoodArguments None = Unit {0}
-GoodArguments (Some arguments) = ReadyArguments arguments
+abbrev pub GoodArguments : (ℕ → Type 0) → Option Arguments → Type 0
+GoodArguments P None = Unit {0}
+GoodArguments P (Some arguments) = ReadyArguments P arguments
 
-by_part : (nest : ℕ) (lists : List (List Placed)) (list : List Placed) (placed : Placed) (rest : List Placed) (part : Part)
+by_part : (P : ℕ → Type 0) (nest : ℕ) (lists : List (List Placed)) (list : List Placed) (placed : Placed) (rest : List Placed) (part : Part)
     → part_of nest placed ≡ part
-    → ReadyArguments (record { lists = lists ++ list ∷ []; levels = placed.levels; rest = rest })
-    → GoodArguments (arguments_from nest (lists ++ list ∷ []) [] rest)
-    → ((deeper : ℕ) → GoodArguments (arguments_from deeper lists (list ++ placed ∷ []) rest))
-    → GoodArguments (arguments_from nest lists list (placed ∷ rest))
+    → ReadyArguments P (record { lists = lists ++ list ∷ []; levels = placed.levels; rest = rest })
+    → GoodArguments P (arguments_from nest (lists ++ list ∷ []) [] rest)
+    → ((deeper : ℕ) → GoodArguments P (arguments_from deeper lists (list ++ placed ∷ []) rest))
+    → GoodArguments P (arguments_from nest lists list (placed ∷ rest))
 unfolding arguments_from
-by_part nest lists list placed rest End is closed comma inside = rw (is, arguments_from) tt
-by_part nest lists list placed rest Close is closed comma inside = rw (is, arguments_from) closed
-by_part nest lists list placed rest Comma is closed comma inside = rw (is, arguments_from) comma
-by_part nest lists list placed rest (Inside deeper) is closed comma inside = rw (is, arguments_from) (inside deeper)
+by_part P nest lists list placed rest End is closed comma inside = rw (is, arguments_from) tt
+by_part P nest lists list placed rest Close is closed comma inside = rw (is, arguments_from) closed
+by_part P nest lists list placed rest Comma is closed comma inside = rw (is, arguments_from) comma
+by_part P nest lists list placed rest (Inside deeper) is closed comma inside = rw (is, arguments_from) (inside deeper)
 
 ends_part : (nest : ℕ) (placed : Placed) → is_end placed.token ≡ true → part_of nest placed ≡ End
 unfolding part_of
 ends_part nest placed is = rw is refl
 
-at_end_none : (nest : ℕ) (lists : List (List Placed)) (list : List Placed) (placed : Placed) (rest : List Placed)
-    → is_end placed.token ≡ true → GoodArguments (arguments_from nest lists list (placed ∷ rest))
+at_end_none : (P : ℕ → Type 0) (nest : ℕ) (lists : List (List Placed)) (list : List Placed) (placed : Placed) (rest : List Placed)
+    → is_end placed.token ≡ true → GoodArguments P (arguments_from nest lists list (placed ∷ rest))
 unfolding arguments_from
-at_end_none nest lists list placed rest is = rw (ends_part nest placed is, arguments_from) tt
+at_end_none P nest lists list placed rest is = rw (ends_part nest placed is, arguments_from) tt
 
-arguments_formed : (nest : ℕ) (lists : List (List Placed)) (list : List Placed) (pending : List Placed)
-    → All FormedPlaced lists → FormedPlaced list → Ready pending → GoodArguments (arguments_from nest lists list pending)
-arguments_formed nest lists list [] some formed ready = absurd ready.last
-arguments_formed nest lists list (placed ∷ rest) some formed ready =
+arguments_sound : (P : ℕ → Type 0) (nest : ℕ) (lists : List (List Placed)) (list : List Placed) (pending : List Placed)
+    → All (SoundPlaced P) lists → SoundPlaced P list → Ready P pending → GoodArguments P (arguments_from nest lists list pending)
+arguments_sound P nest lists list [] some sound ready = absurd ready.last
+arguments_sound P nest lists list (placed ∷ rest) some sound ready =
     elim (cases_Bool (is_end placed.token)) [
-      | inl ends ↦ at_end_none nest lists list placed rest ends
+      | inl ends ↦ at_end_none P nest lists list placed rest ends
       | inr goes ↦
-          let left : Ready rest = ready_rest placed rest goes ready in
-          let all : All FormedPlaced (lists ++ list ∷ []) = All-push FormedPlaced lists list some formed in
-          let more : FormedPlaced (list ++ placed ∷ []) = All-push (λ placed. IsFormed placed.token) list placed formed (All-head (λ placed. IsFormed placed.token) placed rest ready.forms) in
-          by_part nest lists list placed rest (part_of nest placed) refl
+          let left : Ready P rest = ready_rest P placed rest goes ready in
+          let all : All (SoundPlaced P) (lists ++ list ∷ []) = All-push (SoundPlaced P) lists list some sound in
+          let more : SoundPlaced P (list ++ placed ∷ []) = All-push (λ placed. IsSound P placed.token) list placed sound (All-head (λ placed. IsSound P placed.token) placed rest ready.forms) in
+          by_part P nest lists list placed rest (part_of nest placed) refl
           (record { lists = all; rest = left })
-          (arguments_formed nest (lists ++ list ∷ []) [] rest all (All-nil (λ placed. IsFormed placed.token)) left)
-          (λ deeper. arguments_formed deeper lists (list ++ placed ∷ []) rest some more left)
+          (arguments_sound P nest (lists ++ list ∷ []) [] rest all (All-nil (λ placed. IsSound P placed.token)) left)
+          (λ deeper. arguments_sound P deeper lists (list ++ placed ∷ []) rest some more left)
     ]
 
-behind_formed : (pending : List Placed) → Ready pending → GoodArguments (arguments_behind pending)
+behind_sound : (P : ℕ → Type 0) (pending : List Placed) → Ready P pending → GoodArguments P (arguments_behind pending)
 unfolding arguments_behind
-behind_formed [] ready = absurd ready.last
-behind_formed (placed ∷ rest) ready =
+behind_sound P [] ready = absurd ready.last
+behind_sound P (placed ∷ rest) ready =
     elim (cases_Bool (is_sign opening placed.token)) [
-      | inl opens ↦ rw opens (arguments_formed 0 [] [] rest (All-nil FormedPlaced) (All-nil (λ placed. IsFormed placed.token))
-          (ready_rest placed rest (sign_goes opening placed.token opens) ready))
+      | inl opens ↦ rw opens (arguments_sound P 0 [] [] rest (All-nil (SoundPlaced P)) (All-nil (λ placed. IsSound P placed.token))
+          (ready_rest P placed rest (sign_goes opening placed.token opens) ready))
       | inr other ↦ rw other tt
     ]
 
-taken_formed : (parameters : Option Parameters) (name : Placed) (rest : List Placed) → Ready rest → GoodArguments (taken_by parameters name rest)
-taken_formed None name rest ready = record { lists = All-nil FormedPlaced; rest = ready }
-taken_formed (Some parameters) name rest ready = behind_formed rest ready
+taken_sound : (P : ℕ → Type 0) (parameters : Option Parameters) (name : Placed) (rest : List Placed) → Ready P rest → GoodArguments P (taken_by parameters name rest)
+taken_sound P None name rest ready = record { lists = All-nil (SoundPlaced P); rest = ready }
+taken_sound P (Some parameters) name rest ready = behind_sound P rest ready
 
-placed_formed : (pos : Pos) (levels : ℕ) (token : Token) → IsFormed token → IsFormed (placed_at pos levels token).token
+pub placed_sound : (P : ℕ → Type 0) (pos : Pos) (levels : ℕ) (token : Token) → P pos.file → IsFormed token → IsSound P (placed_at pos levels token).token
 unfolding placed_at
-placed_formed pos levels token formed = formed
+placed_sound P pos levels token here formed = record { form = formed; place = here }
 
-list_formed : (lists : List (List Placed)) (place : ℕ) → All FormedPlaced lists → FormedPlaced (get_or lists place [])
-list_formed lists place all =
+list_sound : (P : ℕ → Type 0) (lists : List (List Placed)) (place : ℕ) → All (SoundPlaced P) lists → SoundPlaced P (get_or lists place [])
+list_sound P lists place all =
     elim (cases_lt place (length lists)) [
-      | inl inside ↦ All-get_or FormedPlaced lists place [] inside all
-      | inr past ↦ rw (get_or-eq_default lists [] past) (All-nil (λ placed. IsFormed placed.token))
+      | inl inside ↦ All-get_or (SoundPlaced P) lists place [] inside all
+      | inr past ↦ rw (get_or-eq_default lists [] past) (All-nil (λ placed. IsSound P placed.token))
     ]
 
-standing_formed : (pos : Pos) (levels : ℕ) (lists : List (List Placed)) (token : Token) (place : Option ℕ)
-    → All FormedPlaced lists → IsFormed token → FormedPlaced (standing pos levels lists token place)
-standing_formed pos levels lists token None all formed =
-    All-cons (λ placed. IsFormed placed.token) (placed_at pos levels token) [] (placed_formed pos levels token formed) (All-nil (λ placed. IsFormed placed.token))
-standing_formed pos levels lists token (Some place) all formed =
-    All-map (λ placed. IsFormed placed.token) (λ placed. placed_at pos levels placed.token) (get_or lists place [])
-    (λ k d inside. placed_formed pos levels (get_or (get_or lists place []) k d).token (list_formed lists place all k d inside))
+standing_sound : (P : ℕ → Type 0) (pos : Pos) (levels : ℕ) (lists : List (List Placed)) (token : Token) (place : Option ℕ)
+    → P pos.file → All (SoundPlaced P) lists → IsFormed token → SoundPlaced P (standing pos levels lists token place)
+standing_sound P pos levels lists token None here all formed =
+    All-cons (λ placed. IsSound P placed.token) (placed_at pos levels token) [] (placed_sound P pos levels token here formed) (All-nil (λ placed. IsSound P placed.token))
+standing_sound P pos levels lists token (Some place) here all formed =
+    All-map (λ placed. IsSound P placed.token) (λ placed. placed_at pos levels placed.token) (get_or lists place [])
+    (λ k d inside. placed_sound P pos levels (get_or (get_or lists place []) k d).token here (list_sound P lists place all k d inside).form)
 
-filled_formed : (pos : Pos) (levels : ℕ) (parameters : Option Parameters) (lists : List (List Placed)) (body : List Token)
-    → All FormedPlaced lists → Formed body → FormedPlaced (filled pos levels parameters lists body)
+filled_sound : (P : ℕ → Type 0) (pos : Pos) (levels : ℕ) (parameters : Option Parameters) (lists : List (List Placed)) (body : List Token)
+    → P pos.file → All (SoundPlaced P) lists → Formed body → SoundPlaced P (filled pos levels parameters lists body)
 unfolding filled
-filled_formed pos levels parameters lists [] all formed = All-nil (λ placed. IsFormed placed.token)
-filled_formed pos levels parameters lists (token ∷ body) all formed =
-    All-append (λ placed. IsFormed placed.token) (standing pos levels lists token (parameter_in parameters token)) (filled pos levels parameters lists body)
-    (standing_formed pos levels lists token (parameter_in parameters token) all (All-head IsFormed token body formed))
-    (filled_formed pos levels parameters lists body all (All-tail IsFormed token body formed))
+filled_sound P pos levels parameters lists [] here all formed = All-nil (λ placed. IsSound P placed.token)
+filled_sound P pos levels parameters lists (token ∷ body) here all formed =
+    All-append (λ placed. IsSound P placed.token) (standing pos levels lists token (parameter_in parameters token)) (filled pos levels parameters lists body)
+    (standing_sound P pos levels lists token (parameter_in parameters token) here all (All-head IsFormed token body formed))
+    (filled_sound P pos levels parameters lists body here all (All-tail IsFormed token body formed))
 
-chosen : (P : Read → Type 0) (test : Bool) (one other : Read) → P one → P other → P (if test then one else other)
-chosen P true one other first second = first
-chosen P false one other first second = second
+abbrev GoodRead : (ℕ → Type 0) → Read → Type 0
+GoodRead P read = Ready P read.pending
 
-abbrev GoodRead : Read → Type 0
-GoodRead read = Ready read.pending
-
-use_with_formed : (found : Option Cause) (definition : Definition) (name : Placed) (rest : List Placed) (taken : Option Arguments)
-    → Formed definition.body → Ready rest → GoodArguments taken → GoodRead (use_with found definition name rest taken)
-use_with_formed found definition name rest None body ready good = ready
-use_with_formed found definition name rest (Some arguments) body ready good =
-    chosen GoodRead (fit definition.parameters arguments.lists) _ _
-    (chosen GoodRead (arguments.levels == 0) _ _ good.rest
-    (ready_append _ arguments.rest (filled_formed name.token.pos (arguments.levels - 1) definition.parameters arguments.lists definition.body good.lists body) good.rest))
+use_with_sound : (P : ℕ → Type 0) (found : Option Cause) (definition : Definition) (name : Placed) (rest : List Placed) (taken : Option Arguments)
+    → Formed definition.body → P name.token.pos.file → Ready P rest → GoodArguments P taken → GoodRead P (use_with found definition name rest taken)
+use_with_sound P found definition name rest None body here ready good = ready
+use_with_sound P found definition name rest (Some arguments) body here ready good =
+    holds_either (GoodRead P) (fit definition.parameters arguments.lists) _ _
+    (holds_either (GoodRead P) (arguments.levels == 0) _ _ good.rest
+    (ready_append P _ arguments.rest (filled_sound P name.token.pos (arguments.levels - 1) definition.parameters arguments.lists definition.body here good.lists body) good.rest))
     good.rest
 
-use_formed : (found : Option Cause) (definition : Definition) (name : Placed) (rest : List Placed)
-    → Formed definition.body → Ready rest → GoodRead (use_of found definition name rest)
+use_sound : (P : ℕ → Type 0) (found : Option Cause) (definition : Definition) (name : Placed) (rest : List Placed)
+    → Formed definition.body → P name.token.pos.file → Ready P rest → GoodRead P (use_of found definition name rest)
 unfolding use_of
-use_formed found definition name rest body ready =
-    use_with_formed found definition name rest (taken_by definition.parameters name rest) body ready (taken_formed definition.parameters name rest ready)
+use_sound P found definition name rest body here ready =
+    use_with_sound P found definition name rest (taken_by definition.parameters name rest) body here ready (taken_sound P definition.parameters name rest ready)
 
 -- the bodies of the macros in force
 abbrev pub FormedDefinitions : Definitions → Type 0
 FormedDefinitions definitions = (name : List ℕ) (definition : Definition) → definitions name ≡ Some definition → Formed definition.body
 
 -- what a statement has put out ends with an end once nothing of it is left
-abbrev pub Goes : List Placed → List Token → Type 0
-Goes [] out = EndsWithEnd out
-Goes (placed ∷ rest) out = Ready (placed ∷ rest)
+abbrev pub Goes : (ℕ → Type 0) → List Placed → List Token → Type 0
+Goes P [] out = EndsWithEnd out
+Goes P (placed ∷ rest) out = Ready P (placed ∷ rest)
 
-pub ready_goes : (pending : List Placed) (out : List Token) → Ready pending → Goes pending out
-ready_goes [] out ready = absurd ready.last
-ready_goes (placed ∷ rest) out ready = ready
+pub ready_goes : (P : ℕ → Type 0) (pending : List Placed) (out : List Token) → Ready P pending → Goes P pending out
+ready_goes P [] out ready = absurd ready.last
+ready_goes P (placed ∷ rest) out ready = ready
 
 ends_push : (out : List Token) (token : Token) → token.kind ≡ kinds.End → EndsWithEnd (out ++ token ∷ [])
 ends_push [] token is = is
 ends_push (first ∷ []) token is = is
 ends_push (first ∷ next ∷ out) token is = ends_push (next ∷ out) token is
 
-put_goes : (placed : Placed) (rest : List Placed) (out : List Token) → Ready (placed ∷ rest) → Goes rest (out ++ placed.token ∷ [])
-put_goes placed [] out ready = ends_push out placed.token (end_is placed.token ready.last)
-put_goes placed (next ∷ rest) out ready = record {
-  forms = All-tail (λ placed. IsFormed placed.token) placed (next ∷ rest) ready.forms;
+put_goes : (P : ℕ → Type 0) (placed : Placed) (rest : List Placed) (out : List Token) → Ready P (placed ∷ rest) → Goes P rest (out ++ placed.token ∷ [])
+put_goes P placed [] out ready = ends_push out placed.token (end_is placed.token ready.last)
+put_goes P placed (next ∷ rest) out ready = record {
+  forms = All-tail (λ placed. IsSound P placed.token) placed (next ∷ rest) ready.forms;
   last = ready.last;
 }
 
-pub record GoodMet (definition : Definition) (rest : List Placed) (work : Work) : Type 0 where
+-- what is made, of which there may be so many tokens with those that may still be made
+pub record Within (P : ℕ → Type 0) (most : ℕ) (work : Work) : Type 0 where
+  pub out : Sound P work.out
+  pub count : length work.out + work.room ≡ most
+
+pub record GoodMet (P : ℕ → Type 0) (most : ℕ) (name : Placed) (definition : Definition) (rest : List Placed) (work : Work) : Type 0 where
   pub body : Formed definition.body
-  pub left : Ready rest
-  pub out : Formed work.out
+  pub here : P name.token.pos.file
+  pub left : Ready P rest
+  pub made : Within P most work
 
-pub record GoodOut (out : List Token) : Type 0 where
-  pub forms : Formed out
-  pub ends : EndsWithEnd out
+-- what is made between statements
+pub record GoodWork (P : ℕ → Type 0) (most : ℕ) (work : Work) : Type 0 where
+  pub made : Within P most work
+  pub ends : EndsWithEnd work.out
 
-abbrev pub GoodFront : Front → Type 0
-GoodFront (Ended work) = GoodOut work.out
-GoodFront Full = Unit {0}
-GoodFront (Met name definition rest work) = GoodMet definition rest work
+abbrev pub GoodFront : (ℕ → Type 0) → ℕ → Front → Type 0
+GoodFront P most (Ended work) = GoodWork P most work
+GoodFront P most Full = Unit {0}
+GoodFront P most (Met name definition rest work) = GoodMet P most name definition rest work
 
 force_of : (word : Bool) (definitions : Definitions) (name : List ℕ) (definition : Definition)
     → (if word then definitions name else None) ≡ Some definition → (word ≡ true) × (definitions name ≡ Some definition)
@@ -261,64 +277,88 @@ force_is definitions token definition is = force_of (is_word token) definitions 
 abbrev with_token : Work → Token → Work
 with_token work token = record { out = work.out ++ token ∷ []; room = work.room - 1; uses = work.uses }
 
-front_by : (definitions : Definitions) (placed : Placed) (rest : List Placed) (work : Work) (named : Option Definition)
+front_by : (P : ℕ → Type 0) (most : ℕ) (definitions : Definitions) (placed : Placed) (rest : List Placed) (work : Work) (named : Option Definition)
     → in_force definitions placed.token ≡ named
-    → ((definition : Definition) → named ≡ Some definition → GoodMet definition rest work)
-    → GoodFront (front definitions rest (with_token work placed.token))
-    → GoodFront (front definitions (placed ∷ rest) work)
+    → ((definition : Definition) → named ≡ Some definition → GoodMet P most placed definition rest work)
+    → (nat_eq work.room 0 ≡ false → GoodFront P most (front definitions rest (with_token work placed.token)))
+    → GoodFront P most (front definitions (placed ∷ rest) work)
 unfolding front
-front_by definitions placed rest work (Some definition) is met next = rw (is, front) (met definition refl)
-front_by definitions placed rest work None is met next =
+front_by P most definitions placed rest work (Some definition) is met next = rw (is, front) (met definition refl)
+front_by P most definitions placed rest work None is met next =
     elim (cases_Bool (nat_eq work.room 0)) [
       | inl full ↦ rw (is, full, front) tt
-      | inr room ↦ rw (is, room, front) next
+      | inr room ↦ rw (is, room, front) (next room)
     ]
 
-front_formed : (definitions : Definitions) (pending : List Placed) (work : Work)
-    → FormedDefinitions definitions → Goes pending work.out → Formed work.out → GoodFront (front definitions pending work)
+some_room : (room : ℕ) → nat_eq room 0 ≡ false → 0 < room
+some_room room some = grind (arith, nat_tests)
+
+put_within : (P : ℕ → Type 0) (most : ℕ) (work : Work) (token : Token) → nat_eq work.room 0 ≡ false → Within P most work → IsSound P token
+    → Within P most (with_token work token)
+put_within P most work token room made sound =
+    let some = some_room work.room room in
+    record {
+      out = All-push (IsSound P) work.out token made.out sound;
+      count = omega (arith, some, made.count, length-append work.out (token ∷ []));
+    }
+
+front_sound : (P : ℕ → Type 0) (most : ℕ) (definitions : Definitions) (pending : List Placed) (work : Work)
+    → FormedDefinitions definitions → Goes P pending work.out → Within P most work → GoodFront P most (front definitions pending work)
 unfolding front
-front_formed definitions [] work bodies goes out = record { forms = out; ends = goes }
-front_formed definitions (placed ∷ rest) work bodies ready out =
-    front_by definitions placed rest work (in_force definitions placed.token) refl
+front_sound P most definitions [] work bodies goes made = record { made = made; ends = goes }
+front_sound P most definitions (placed ∷ rest) work bodies ready made =
+    let first : IsSound P placed.token = All-head (λ placed. IsSound P placed.token) placed rest ready.forms in
+    front_by P most definitions placed rest work (in_force definitions placed.token) refl
     (λ definition is. let named = force_is definitions placed.token definition is in record {
       body = bodies placed.token.text definition named.1;
-      left = ready_rest placed rest (word_goes placed.token named.0) ready;
-      out = out;
+      here = first.place;
+      left = ready_rest P placed rest (word_goes placed.token named.0) ready;
+      made = made;
     })
-    (front_formed definitions rest (with_token work placed.token) bodies (put_goes placed rest work.out ready)
-    (All-push IsFormed work.out placed.token out (All-head (λ placed. IsFormed placed.token) placed rest ready.forms)))
+    (λ room. front_sound P most definitions rest (with_token work placed.token) bodies (put_goes P placed rest work.out ready)
+    (put_within P most work placed.token room made first))
 
-abbrev pub GoodWork : Result Work MacroNo → Type 0
-GoodWork (Ok work) = GoodOut work.out
-GoodWork (Err fault) = Unit {0}
+refusal_in : (P : ℕ → Type 0) (cause : Cause) (pos : Pos) → P pos.file → RefusedIn P (refusal cause pos)
+unfolding refusal
+refusal_in P ArgumentCount pos here = here
+refusal_in P MissingArguments pos here = here
+refusal_in P Nesting pos here = here
+refusal_in P TooMany pos here = here
 
-ended_formed : (pos : Pos) (found : Option Cause) (work : Work) → GoodOut work.out → GoodWork (ended pos found work)
-ended_formed pos None work good = good
-ended_formed pos (Some cause) work good = tt
+abbrev pub WorkOrRefusal : (ℕ → Type 0) → ℕ → Result Work MacroNo → Type 0
+WorkOrRefusal P most answer = Holds (GoodWork P most) (RefusedIn P) answer
 
-run_by : (uses : ℕ) (definitions : Definitions) (pos : Pos) (found : Option Cause) (pending : List Placed) (work : Work) (at : Front)
-    → front definitions pending work ≡ at → GoodFront at
-    → ((name : Placed) (definition : Definition) (rest : List Placed) (next : Work) → GoodMet definition rest next
-    → 0 < uses → GoodWork (run (uses - 1) definitions pos (use_of found definition name rest).found (use_of found definition name rest).pending (used next (uses - 1))))
-    → GoodWork (run uses definitions pos found pending work)
-run_by uses definitions pos found pending work (Ended next) is good on =
-    rw (run_ended uses definitions pos found pending work next is) (ended_formed pos found next good)
-run_by uses definitions pos found pending work Full is good on = rw (run_full uses definitions pos found pending work is) tt
-run_by zero definitions pos found pending work (Met name definition rest next) is good on =
-    rw (run_passed zero definitions pos found pending rest work next name definition refl is) tt
-run_by (suc uses) definitions pos found pending work (Met name definition rest next) is good on =
+ended_sound : (P : ℕ → Type 0) (most : ℕ) (pos : Pos) (found : Option Cause) (work : Work) → P pos.file → GoodWork P most work → WorkOrRefusal P most (ended pos found work)
+ended_sound P most pos None work here good = good
+ended_sound P most pos (Some cause) work here good = refusal_in P cause pos here
+
+run_by : (P : ℕ → Type 0) (most uses : ℕ) (definitions : Definitions) (pos : Pos) (found : Option Cause) (pending : List Placed) (work : Work) (at : Front)
+    → P pos.file → front definitions pending work ≡ at → GoodFront P most at
+    → ((name : Placed) (definition : Definition) (rest : List Placed) (next : Work) → GoodMet P most name definition rest next
+    → 0 < uses → WorkOrRefusal P most (run (uses - 1) definitions pos (use_of found definition name rest).found (use_of found definition name rest).pending (with_uses next (uses - 1))))
+    → WorkOrRefusal P most (run uses definitions pos found pending work)
+run_by P most uses definitions pos found pending work (Ended next) here is good on =
+    rw (run_ended uses definitions pos found pending work next is) (ended_sound P most pos found next here good)
+run_by P most uses definitions pos found pending work Full here is good on =
+    rw (run_full uses definitions pos found pending work is) (refusal_in P (lower found TooMany) pos here)
+run_by P most zero definitions pos found pending work (Met name definition rest next) here is good on =
+    rw (run_passed zero definitions pos found pending rest work next name definition refl is) (refusal_in P (lower found (passed definition name rest)) pos here)
+run_by P most (suc uses) definitions pos found pending work (Met name definition rest next) here is good on =
     rw (run_next (suc uses) definitions pos found pending rest work next name definition (use_of found definition name rest) (omega arith) is refl)
     (on name definition rest next good (omega arith))
 
-pub run_formed : (uses : ℕ) (definitions : Definitions) (pos : Pos) (found : Option Cause) (pending : List Placed) (work : Work)
-    → FormedDefinitions definitions → Goes pending work.out → Formed work.out → GoodWork (run uses definitions pos found pending work)
-run_formed zero definitions pos found pending work bodies goes out =
-    run_by zero definitions pos found pending work (front definitions pending work) refl (front_formed definitions pending work bodies goes out)
+with_uses_within : (P : ℕ → Type 0) (most : ℕ) (work : Work) (uses : ℕ) → Within P most work → Within P most (with_uses work uses)
+with_uses_within P most work uses made = record { out = made.out; count = made.count }
+
+pub run_sound : (P : ℕ → Type 0) (most uses : ℕ) (definitions : Definitions) (pos : Pos) (found : Option Cause) (pending : List Placed) (work : Work)
+    → P pos.file → FormedDefinitions definitions → Goes P pending work.out → Within P most work → WorkOrRefusal P most (run uses definitions pos found pending work)
+run_sound P most zero definitions pos found pending work here bodies goes made =
+    run_by P most zero definitions pos found pending work (front definitions pending work) here refl (front_sound P most definitions pending work bodies goes made)
     (λ name definition rest next good some. absurd (omega arith))
-run_formed (suc uses) definitions pos found pending work bodies goes out =
-    run_by (suc uses) definitions pos found pending work (front definitions pending work) refl (front_formed definitions pending work bodies goes out)
+run_sound P most (suc uses) definitions pos found pending work here bodies goes made =
+    run_by P most (suc uses) definitions pos found pending work (front definitions pending work) here refl (front_sound P most definitions pending work bodies goes made)
     (λ name definition rest next good some.
     let less : suc uses - 1 ≡ uses = omega arith in
     let read = use_of found definition name rest in
-    rw less (run_formed uses definitions pos read.found read.pending (used next uses) bodies
-    (ready_goes read.pending next.out (use_formed found definition name rest good.body good.left)) good.out))
+    rw less (run_sound P most uses definitions pos read.found read.pending (with_uses next uses) here bodies
+    (ready_goes P read.pending next.out (use_sound P found definition name rest good.body good.here good.left)) (with_uses_within P most next uses good.made)))

@@ -1,10 +1,15 @@
 pub mod NameLemmas
 pub mod BracketLemmas
 pub mod StatementLemmas
+pub mod LineNameLemmas
 pub mod BuildLemmas
+pub mod RefusalLemmas
 pub mod UseLemmas
 pub mod FileLemmas
 pub mod OutcomeLemmas
 pub mod FormLemmas
+pub mod FormStatements
 pub mod FormFiles
+pub mod FormBuilds
+pub mod PlaceLemmas
 pub mod TextLemmas

@@ -1,5 +1,5 @@
 -- What comes of a build.
-use Rattle.std.proofs.Common.{◌≡◌, ℕ, ◌+◌, List, [], Result, Ok, Err, IfOk, IfErr, refl, ap, ◌∙◌}
+use Rattle.std.proofs.Common.{◌≡◌, ℕ, ◌+◌, List, Result, Ok, Err, IfOk, IfErr, refl, ap, ◌∙◌}
 use Rattle.asm_lex.specs.declared.token.Token.{Token}
 use Rattle.asm_lex.specs.declared.token.Tokens.{Tokens}
 use Rattle.asm_macro.specs.declared.refusal.MacroNo.{MacroNo}
@@ -8,7 +8,7 @@ use Rattle.asm_macro.specs.declared.files.Environment.{Environment}
 use Rattle.asm_macro.specs.Names.{Names, nothing}
 use Rattle.asm_macro.specs.Definitions.{Definitions}
 use Rattle.asm_macro.specs.Files.{Context}
-use Rattle.asm_macro.specs.Builds.{line_names_of, greatest_file, numbered, included, defined, sources_from, context_for, expansion, limits, Done, Refused, outcome, outcome_of}
+use Rattle.asm_macro.specs.Builds.{line_names_of, greatest_file, numbered, included, defined, expand_sources, context_for, expansion, limits, Done, Refused, outcome, outcome_of}
 use Rattle.asm_macro.specs.Views.{names_of, files_in, context_of}
 
 pub ok_then : {A B : Type 0} (P Q : A → Type 0) (answer : Result A B) → ((x : A) → P x → Q x) → IfOk answer P → IfOk answer Q
@@ -32,7 +32,7 @@ context_is environment sources includes defines one other =
 
 pub expansion_is : (limits : Limits) (sources : List Tokens) (includes defines : List (List ℕ × Tokens)) (context : Context) (definitions : Definitions)
     → context ≡ context_for sources includes defines → defined nothing defines ≡ Ok definitions
-    → expansion limits sources includes defines ≡ sources_from limits.nesting context definitions limits.tokens limits.uses [] sources
+    → expansion limits sources includes defines ≡ expand_sources limits.nesting context definitions limits.tokens limits.uses sources
 unfolding expansion
 expansion_is limits sources includes defines context definitions is given = rw (is, given) refl
 

@@ -6,7 +6,7 @@ use Rattle.asm_macro.specs.declared.cause.Cause.{Cause}
 use Rattle.asm_macro.specs.declared.cause.Cause.TheVariants.{TooMany}
 use Rattle.asm_macro.specs.Refusals.{lower, refusal}
 use Rattle.asm_macro.specs.Definitions.{Definition, Definitions}
-use Rattle.asm_macro.specs.Uses.{Work, Read, Ended, Full, Met, front, use_of, passed, ended, used, run}
+use Rattle.asm_macro.specs.Uses.{Work, Read, Ended, Full, Met, front, use_of, passed, ended, with_uses, run}
 
 pub run_ended : (uses : ℕ) (definitions : Definitions) (pos : Pos) (found : Option Cause) (pending : List Placed) (work next : Work)
     → front definitions pending work ≡ Ended next → run uses definitions pos found pending work ≡ ended pos found next
@@ -29,7 +29,7 @@ run_passed (suc uses) definitions pos found pending rest work next name definiti
 
 pub run_next : (uses : ℕ) (definitions : Definitions) (pos : Pos) (found : Option Cause) (pending rest : List Placed) (work next : Work) (name : Placed) (definition : Definition) (read : Read)
     → 0 < uses → front definitions pending work ≡ Met name definition rest next → use_of found definition name rest ≡ read
-    → run uses definitions pos found pending work ≡ run (uses - 1) definitions pos read.found read.pending (used next (uses - 1))
+    → run uses definitions pos found pending work ≡ run (uses - 1) definitions pos read.found read.pending (with_uses next (uses - 1))
 unfolding run
 run_next zero definitions pos found pending rest work next name definition read some is reads = absurd (omega arith)
 run_next (suc uses) definitions pos found pending rest work next name definition read some is reads =

@@ -1,5 +1,6 @@
 -- A build: the macros that it defines before all sources, its files, and what comes of it.
 use Rattle.std.specs.Prelude.{ℕ, List, [], ◌∷◌, ◌++◌, ◌+◌, ◌-◌, map, max, length, take, Some, None, is_some, Result, Ok, Err, if◌then◌else◌}
+use Rattle.std.specs.List.{flat_map, sum_by}
 use Rattle.goasm_base.specs.declared.pos.Pos.{Pos}
 use Rattle.asm_lex.specs.declared.token.Token.{Token}
 use Rattle.asm_lex.specs.declared.token.Tokens.{Tokens}
@@ -8,13 +9,22 @@ use Rattle.asm_macro.specs.declared.refusal.MacroNo.TheVariants.{M6}
 use Rattle.asm_macro.specs.declared.limits.Limits.{Limits}
 use Rattle.asm_macro.specs.Names.{Names, nothing, with_name}
 use Rattle.asm_macro.specs.Definitions.{Definition, Definitions}
-use Rattle.asm_macro.specs.Files.{Context, State, file}
-use Rattle.asm_macro.specs.LineNames.{names_in_files, distinct_behind}
+use Rattle.asm_macro.specs.Refusals.{◌>>=◌}
+use Rattle.asm_macro.specs.Files.{Context, State, read_file}
+use Rattle.asm_macro.specs.LineNames.{names_in, distinct_behind}
+
+-- the tokens of several files
+abbrev pub token_count : List Tokens → ℕ
+token_count all = sum_by (λ tokens. length tokens.list) all
+
+-- the files that sources may include, without their names
+abbrev pub included_tokens : List (List ℕ × Tokens) → List Tokens
+included_tokens includes = map (λ include. include.1) includes
 
 -- the distinct names in `#line` directives, of sources first and of includes after them
 unfoldable pub line_names_of : List Tokens → List (List ℕ × Tokens) → List (List ℕ)
 line_names_of sources includes =
-    distinct_behind [] (names_in_files (map (λ tokens. tokens.list) sources ++ map (λ include. include.1.list) includes))
+    distinct_behind [] (flat_map (λ tokens. names_in tokens.list) (sources ++ included_tokens includes))
 
 -- the greatest number of a file, and of those before it
 abbrev pub greatest : ℕ → List ℕ → ℕ
@@ -39,7 +49,7 @@ included files (include ∷ includes) =
 -- a value's body is all of it but its end
 abbrev pub value_definition : Tokens → Definition
 value_definition tokens =
-    record { parameters = None; body = take (length tokens.list - 1) tokens.list; maker = None }
+    record { parameters = None; body = take (length tokens.list - 1) tokens.list; origin = None }
 
 abbrev pub first_pos : ℕ → List Token → Pos
 first_pos file [] = record { file = file; line = 1 }
@@ -55,15 +65,13 @@ defined definitions (define ∷ defines) =
 abbrev pub started : Definitions → ℕ → ℕ → State
 started definitions room uses = record { definitions = definitions; work = record { out = []; room = room; uses = uses } }
 
--- the sources one after the other, each with the macros that the build defines
-unfoldable pub sources_from : ℕ → Context → Definitions → ℕ → ℕ → List Tokens → List Tokens → Result (List Tokens) MacroNo
-sources_from nesting context definitions room uses done [] = Ok done
-sources_from nesting context definitions room uses done (tokens ∷ sources) =
-    elim (file nesting context tokens.list (started definitions room uses)) [
-      | Err fault ↦ Err fault
-      | Ok state ↦ sources_from nesting context definitions state.work.room state.work.uses
-          (done ++ record { file = tokens.file; list = state.work.out } ∷ []) sources
-    ]
+-- the sources one after the other, each with the macros that the build defines, where so many tokens and uses are left
+unfoldable pub expand_sources : ℕ → Context → Definitions → ℕ → ℕ → List Tokens → Result (List Tokens) MacroNo
+expand_sources nesting context definitions room uses [] = Ok []
+expand_sources nesting context definitions room uses (tokens ∷ sources) = do
+  state ← read_file nesting context tokens.list (started definitions room uses)
+  others ← expand_sources nesting context definitions state.work.room state.work.uses sources
+  Ok (record { file = tokens.file; list = state.work.out } ∷ others)
 
 abbrev pub context_for : List Tokens → List (List ℕ × Tokens) → List (List ℕ × Tokens) → Context
 context_for sources includes defines = record {
@@ -71,15 +79,11 @@ context_for sources includes defines = record {
   files = numbered (greatest_file sources includes defines + 1) nothing (line_names_of sources includes);
 }
 
-abbrev pub expanded_from : Limits → Context → List Tokens → Result Definitions MacroNo → Result (List Tokens) MacroNo
-expanded_from limits context sources (Err fault) = Err fault
-expanded_from limits context sources (Ok definitions) =
-    sources_from limits.nesting context definitions limits.tokens limits.uses [] sources
-
 -- what comes of a build under these limits: the tokens of each source, or the first refusal
 unfoldable pub expansion : Limits → List Tokens → List (List ℕ × Tokens) → List (List ℕ × Tokens) → Result (List Tokens) MacroNo
-expansion limits sources includes defines =
-    expanded_from limits (context_for sources includes defines) sources (defined nothing defines)
+expansion limits sources includes defines = do
+  definitions ← defined nothing defines
+  expand_sources limits.nesting (context_for sources includes defines) definitions limits.tokens limits.uses sources
 
 -- 4,000,000 tokens and as many uses, nested 100 deep
 abbrev pub limits : Limits

@@ -51,15 +51,15 @@ abbrev pub rows_of : BuiltIn → List Row
 rows_of Textflag = textflag
 rows_of Funcdata = funcdata
 
-abbrev pub is_made_by : BuiltIn → Option BuiltIn → Bool
-is_made_by file None = false
-is_made_by Textflag (Some Textflag) = true
-is_made_by Textflag (Some Funcdata) = false
-is_made_by Funcdata (Some Textflag) = false
-is_made_by Funcdata (Some Funcdata) = true
+abbrev pub is_defined_by : BuiltIn → Option BuiltIn → Bool
+is_defined_by file None = false
+is_defined_by Textflag (Some Textflag) = true
+is_defined_by Textflag (Some Funcdata) = false
+is_defined_by Funcdata (Some Textflag) = false
+is_defined_by Funcdata (Some Funcdata) = true
 
 abbrev pub row_definition : BuiltIn → Row → Definition
-row_definition file row = record { parameters = None; body = row.body; maker = Some file }
+row_definition file row = record { parameters = None; body = row.body; origin = Some file }
 
 -- a definition is passed over where the name is defined by the same built-in file
 unfoldable pub with_rows : BuiltIn → Pos → Definitions → List Row → Result Definitions MacroNo
@@ -67,5 +67,5 @@ with_rows file pos definitions [] = Ok definitions
 with_rows file pos definitions (row ∷ rows) =
     elim (definitions row.name) [
       | None ↦ with_rows file pos (with_name definitions row.name (Some (row_definition file row))) rows
-      | Some there ↦ if is_made_by file there.maker then with_rows file pos definitions rows else Err (M6 pos)
+      | Some there ↦ if is_defined_by file there.origin then with_rows file pos definitions rows else Err (M6 pos)
     ]

@@ -10,25 +10,25 @@ is_taken (condition ∷ conditions) = condition.taken
 
 -- a condition that is judged, of which the first branch is taken or not
 abbrev pub judged : Pos → Bool → Condition
-judged pos taken = record { pos = pos; judged = true; taken = taken; turned = false }
+judged pos taken = record { pos = pos; judged = true; taken = taken; has_else = false }
 
 -- a condition in a branch that isn't taken: no branch of it is
 abbrev pub skipped : Pos → Condition
-skipped pos = record { pos = pos; judged = false; taken = false; turned = false }
+skipped pos = record { pos = pos; judged = false; taken = false; has_else = false }
 
 -- `#else`: it has to stand alone where its condition is judged, and comes once
-unfoldable pub turned : Bool → List Condition → Option (List Condition)
-turned alone [] = None
-turned alone (condition ∷ conditions) =
-    if condition.turned || (condition.judged && not alone) then None
+unfoldable pub conditions_after_else : Bool → List Condition → Option (List Condition)
+conditions_after_else alone [] = None
+conditions_after_else alone (condition ∷ conditions) =
+    if condition.has_else || (condition.judged && not alone) then None
     else Some (record {
       pos = condition.pos;
       judged = condition.judged;
       taken = condition.judged && not condition.taken;
-      turned = true;
+      has_else = true;
     } ∷ conditions)
 
 -- `#endif`: it has to stand alone where its condition is judged
-unfoldable pub left : Bool → List Condition → Option (List Condition)
-left alone [] = None
-left alone (condition ∷ conditions) = if condition.judged && not alone then None else Some conditions
+unfoldable pub conditions_after_endif : Bool → List Condition → Option (List Condition)
+conditions_after_endif alone [] = None
+conditions_after_endif alone (condition ∷ conditions) = if condition.judged && not alone then None else Some conditions

@@ -15,7 +15,7 @@ pub record Definition : Type 0 where
   pub parameters : Option Parameters
   pub body : List Token
   -- the built-in file that defines it, where one does
-  pub maker : Option BuiltIn
+  pub origin : Option BuiltIn
 
 -- the macros in force, by name
 abbrev pub Definitions : Type 0

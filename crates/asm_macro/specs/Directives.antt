@@ -89,10 +89,10 @@ pub record Named : Type 0 where
 abbrev pub with_head : List ℕ → Option Head → Option Named
 with_head name None = None
 with_head name (Some head) =
-    Some (record { name = name; definition = record { parameters = Some head.parameters; body = head.body; maker = None } })
+    Some (record { name = name; definition = record { parameters = Some head.parameters; body = head.body; origin = None } })
 
 abbrev pub without_head : List ℕ → List Token → Named
-without_head name body = record { name = name; definition = record { parameters = None; body = body; maker = None } }
+without_head name body = record { name = name; definition = record { parameters = None; body = body; origin = None } }
 
 -- a bracket that stands directly behind the name opens parameters
 unfoldable pub definition_behind : List ℕ → List Token → Option Named

@@ -14,10 +14,11 @@ use Rattle.asm_macro.specs.declared.condition.Condition.{Condition}
 use Rattle.asm_macro.specs.Names.{Names, with_name}
 use Rattle.asm_macro.specs.Tokens.{is_newline}
 use Rattle.asm_macro.specs.Definitions.{Definitions}
-use Rattle.asm_macro.specs.Uses.{Work, placed_at, expanded, used}
+use Rattle.asm_macro.specs.Refusals.{◌>>=◌}
+use Rattle.asm_macro.specs.Uses.{Work, placed_at, expand_statement, with_uses}
 use Rattle.asm_macro.specs.Statements.{Statement, statements_of}
 use Rattle.asm_macro.specs.Directives.{keyword_of, name_in, quoted_in, LineMark, mark_in, Named, definition_in}
-use Rattle.asm_macro.specs.Conditions.{is_taken, judged, skipped, turned, left}
+use Rattle.asm_macro.specs.Conditions.{is_taken, judged, skipped, conditions_after_else, conditions_after_endif}
 use Rattle.asm_macro.specs.Positions.{moved, mapping_from}
 use Rattle.asm_macro.specs.BuiltIn.{built_in_named, rows_of, with_rows}
 
@@ -46,8 +47,8 @@ pub record Step : Type 0 where
   pub state : State
   pub entered : Option (List Token)
 
-abbrev pub on : Place → State → Result Step MacroNo
-on place state = Ok (record { place = place; state = state; entered = None })
+abbrev pub step_at : Place → State → Result Step MacroNo
+step_at place state = Ok (record { place = place; state = state; entered = None })
 
 abbrev pub with_conditions : Place → List Condition → Place
 with_conditions place conditions = record { mapping = place.mapping; conditions = conditions }
@@ -67,50 +68,37 @@ unfoldable pub undefine : Pos → Option (List ℕ) → State → Result State M
 undefine pos None state = Err (M5 pos)
 undefine pos (Some name) state = Ok (with_definitions state (with_name state.definitions name None))
 
-abbrev pub after : Place → Result State MacroNo → Result Step MacroNo
-after place (Ok state) = on place state
-after place (Err fault) = Err fault
-
 -- a use of a file, which counts as one of a macro
-abbrev pub counted : ℕ → Pos → State → Result State MacroNo
-counted levels pos state =
+abbrev pub count_use : ℕ → Pos → State → Result State MacroNo
+count_use levels pos state =
     if levels == 0 then Err (M4 pos)
     else (if state.work.uses == 0 then Err (M7 pos)
-    else Ok (record { definitions = state.definitions; work = used state.work (state.work.uses - 1) }))
+    else Ok (record { definitions = state.definitions; work = with_uses state.work (state.work.uses - 1) }))
+
+unfoldable pub include_built_in : ℕ → Pos → State → Option BuiltIn → Result State MacroNo
+include_built_in levels pos state None = Err (M1 pos)
+include_built_in levels pos state (Some file) = do
+  counted ← count_use levels pos state
+  definitions ← with_rows file pos counted.definitions (rows_of file)
+  Ok (with_definitions counted definitions)
 
 -- what an inclusion leaves, and the file to be read next, if any
 pub record Inclusion : Type 0 where
   pub state : State
   pub entered : Option (List Token)
 
-abbrev pub enter : Option (List Token) → Result State MacroNo → Result Inclusion MacroNo
-enter entered (Ok state) = Ok (record { state = state; entered = entered })
-enter entered (Err fault) = Err fault
-
-abbrev pub defining : State → Result Definitions MacroNo → Result State MacroNo
-defining state (Ok definitions) = Ok (with_definitions state definitions)
-defining state (Err fault) = Err fault
-
-abbrev pub with_built_in : BuiltIn → Pos → Result State MacroNo → Result State MacroNo
-with_built_in file pos (Ok state) = defining state (with_rows file pos state.definitions (rows_of file))
-with_built_in file pos (Err fault) = Err fault
-
-unfoldable pub include_built_in : ℕ → Pos → State → Option BuiltIn → Result State MacroNo
-include_built_in levels pos state None = Err (M1 pos)
-include_built_in levels pos state (Some file) = with_built_in file pos (counted levels pos state)
-
-abbrev pub include_named : ℕ → Pos → List ℕ → State → Option (List Token) → Result Inclusion MacroNo
-include_named levels pos name state (Some tokens) = enter (Some tokens) (counted levels pos state)
-include_named levels pos name state None = enter None (include_built_in levels pos state (built_in_named name))
+unfoldable pub include_named : ℕ → Pos → List ℕ → State → Option (List Token) → Result Inclusion MacroNo
+include_named levels pos name state (Some tokens) = do
+  counted ← count_use levels pos state
+  Ok (record { state = counted; entered = Some tokens })
+include_named levels pos name state None = do
+  defined ← include_built_in levels pos state (built_in_named name)
+  Ok (record { state = defined; entered = None })
 
 -- `#include`: a file of the build, or else a built-in one
 unfoldable pub include : Context → ℕ → Pos → Option (List ℕ) → State → Result Inclusion MacroNo
 include context levels pos None state = Err (M5 pos)
 include context levels pos (Some name) state = include_named levels pos name state (context.includes name)
-
-abbrev pub included_at : Place → Result Inclusion MacroNo → Result Step MacroNo
-included_at place (Ok inclusion) = Ok (record { place = place; state = inclusion.state; entered = inclusion.entered })
-included_at place (Err fault) = Err fault
 
 -- `#ifdef` and `#ifndef`
 unfoldable pub open_condition : Bool → Pos → Option (List ℕ) → Definitions → Place → Result Place MacroNo
@@ -118,42 +106,50 @@ open_condition wanted pos None definitions place = Err (M5 pos)
 open_condition wanted pos (Some name) definitions place =
     Ok (with_conditions place (judged pos (if wanted then is_some (definitions name) else not (is_some (definitions name))) ∷ place.conditions))
 
-abbrev pub balanced : Pos → Place → Option (List Condition) → Result Place MacroNo
-balanced pos place None = Err (M5 pos)
-balanced pos place (Some conditions) = Ok (with_conditions place conditions)
+-- the place with the conditions that are open behind a `#else` or an `#endif`, where one may stand there
+abbrev pub balanced_place : Pos → Place → Option (List Condition) → Result Place MacroNo
+balanced_place pos place None = Err (M5 pos)
+balanced_place pos place (Some conditions) = Ok (with_conditions place conditions)
 
-abbrev pub mapped : Place → ℕ → ℕ → Option ℕ → Place
-mapped place number line None = place
-mapped place number line (Some file) = record { mapping = Some (mapping_from file number line); conditions = place.conditions }
+abbrev pub mapped_place : Place → ℕ → ℕ → Option ℕ → Place
+mapped_place place number line None = place
+mapped_place place number line (Some file) = record { mapping = Some (mapping_from file number line); conditions = place.conditions }
 
 -- `#line`: each file that it names has a number
 unfoldable pub mark : Context → Pos → ℕ → Option LineMark → Place → Result Place MacroNo
 mark context pos line None place = Err (M5 pos)
-mark context pos line (Some said) place = Ok (mapped place said.number line (context.files said.name))
+mark context pos line (Some said) place = Ok (mapped_place place said.number line (context.files said.name))
 
-abbrev pub at_place : State → Result Place MacroNo → Result Step MacroNo
-at_place state (Ok place) = on place state
-at_place state (Err fault) = Err fault
-
-abbrev pub is_nothing : List Token → Bool
-is_nothing tokens = length tokens == 0
+abbrev pub is_empty : List Token → Bool
+is_empty tokens = length tokens == 0
 
 -- a directive where statements count
-unfoldable pub obey : Context → ℕ → Pos → ℕ → List Token → Place → State → Keyword → Result Step MacroNo
-obey context levels pos line words place state keywords.Define = after place (define pos (definition_in words) state)
-obey context levels pos line words place state keywords.Undef = after place (undefine pos (name_in words) state)
-obey context levels pos line words place state keywords.Include =
-    included_at place (include context levels pos (quoted_in words) state)
-obey context levels pos line words place state keywords.Ifdef =
-    at_place state (open_condition true pos (name_in words) state.definitions place)
-obey context levels pos line words place state keywords.Ifndef =
-    at_place state (open_condition false pos (name_in words) state.definitions place)
-obey context levels pos line words place state keywords.Else =
-    at_place state (balanced pos place (turned (is_nothing words) place.conditions))
-obey context levels pos line words place state keywords.Endif =
-    at_place state (balanced pos place (left (is_nothing words) place.conditions))
-obey context levels pos line words place state keywords.Line = at_place state (mark context pos line (mark_in words) place)
-obey context levels pos line words place state keywords.Other = Err (M5 pos)
+unfoldable pub execute : Context → ℕ → Pos → ℕ → List Token → Place → State → Keyword → Result Step MacroNo
+execute context levels pos line words place state keywords.Define = do
+  after ← define pos (definition_in words) state
+  step_at place after
+execute context levels pos line words place state keywords.Undef = do
+  after ← undefine pos (name_in words) state
+  step_at place after
+execute context levels pos line words place state keywords.Include = do
+  inclusion ← include context levels pos (quoted_in words) state
+  Ok (record { place = place; state = inclusion.state; entered = inclusion.entered })
+execute context levels pos line words place state keywords.Ifdef = do
+  after ← open_condition true pos (name_in words) state.definitions place
+  step_at after state
+execute context levels pos line words place state keywords.Ifndef = do
+  after ← open_condition false pos (name_in words) state.definitions place
+  step_at after state
+execute context levels pos line words place state keywords.Else = do
+  after ← balanced_place pos place (conditions_after_else (is_empty words) place.conditions)
+  step_at after state
+execute context levels pos line words place state keywords.Endif = do
+  after ← balanced_place pos place (conditions_after_endif (is_empty words) place.conditions)
+  step_at after state
+execute context levels pos line words place state keywords.Line = do
+  after ← mark context pos line (mark_in words) place
+  step_at after state
+execute context levels pos line words place state keywords.Other = Err (M5 pos)
 
 -- a directive in a branch that isn't taken: only conditions are counted, by their first words
 unfoldable pub skip : Pos → List Token → Place → Keyword → Result Place MacroNo
@@ -162,8 +158,8 @@ skip pos words place keywords.Undef = Ok place
 skip pos words place keywords.Include = Ok place
 skip pos words place keywords.Ifdef = Ok (with_conditions place (skipped pos ∷ place.conditions))
 skip pos words place keywords.Ifndef = Ok (with_conditions place (skipped pos ∷ place.conditions))
-skip pos words place keywords.Else = balanced pos place (turned (is_nothing words) place.conditions)
-skip pos words place keywords.Endif = balanced pos place (left (is_nothing words) place.conditions)
+skip pos words place keywords.Else = balanced_place pos place (conditions_after_else (is_empty words) place.conditions)
+skip pos words place keywords.Endif = balanced_place pos place (conditions_after_endif (is_empty words) place.conditions)
 skip pos words place keywords.Line = Ok place
 skip pos words place keywords.Other = Ok place
 
@@ -172,62 +168,57 @@ rest_of [] = []
 rest_of (token ∷ tokens) = tokens
 
 -- a directive, by its first word and those behind it
-unfoldable pub told : Context → ℕ → Pos → ℕ → List Token → Place → State → Keyword → Result Step MacroNo
-told context levels pos line words place state keyword =
-    if is_taken place.conditions then obey context levels pos line words place state keyword
-    else at_place state (skip pos words place keyword)
-
-abbrev pub directive : Context → ℕ → Pos → ℕ → List Token → Place → State → Result Step MacroNo
-directive context levels pos line words place state =
-    told context levels pos line (rest_of words) place state (keyword_of words)
-
-abbrev pub worked : Place → Definitions → Result Work MacroNo → Result Step MacroNo
-worked place definitions (Ok work) = on place (record { definitions = definitions; work = work })
-worked place definitions (Err fault) = Err fault
+unfoldable pub read_directive : Context → ℕ → Pos → ℕ → List Token → Place → State → Keyword → Result Step MacroNo
+read_directive context levels pos line words place state keyword =
+    if is_taken place.conditions then execute context levels pos line words place state keyword
+    else (skip pos words place keyword >>= λ after. step_at after state)
 
 -- a statement's tokens, each with its position
 abbrev pub placed_in : Option Mapping → ℕ → List Token → List Placed
 placed_in mapping levels tokens = map (λ token. placed_at (moved mapping token.pos) levels token) tokens
 
-unfoldable pub plain : ℕ → Pos → List Token → Place → State → Result Step MacroNo
-plain levels pos tokens place state =
+unfoldable pub read_plain : ℕ → Pos → List Token → Place → State → Result Step MacroNo
+read_plain levels pos tokens place state =
     if is_taken place.conditions
-    then worked place state.definitions (expanded state.definitions pos (placed_in place.mapping levels tokens) state.work)
-    else on place state
+    then (expand_statement state.definitions pos (placed_in place.mapping levels tokens) state.work
+    >>= λ work. step_at place (record { definitions = state.definitions; work = work }))
+    else step_at place state
 
 -- the line on which tokens end
 abbrev pub end_line : Token → List Token → ℕ
 end_line first tokens = (slice_index_or tokens (length tokens - 1) first).pos.line
 
-unfoldable pub read : Context → ℕ → Bool → List Token → Place → State → Result Step MacroNo
-read context levels is_directive [] place state = on place state
-read context levels true (first ∷ tokens) place state =
-    directive context levels (moved place.mapping first.pos) (end_line first (first ∷ tokens))
-    (before_first is_newline tokens) place state
-read context levels false (first ∷ tokens) place state =
-    plain levels (moved place.mapping first.pos) (first ∷ tokens) place state
+unfoldable pub read_statement : Context → ℕ → Bool → List Token → Place → State → Result Step MacroNo
+read_statement context levels is_directive [] place state = step_at place state
+read_statement context levels true (first ∷ tokens) place state =
+    let words = before_first is_newline tokens in
+    read_directive context levels (moved place.mapping first.pos) (end_line first (first ∷ tokens)) (rest_of words) place state (keyword_of words)
+read_statement context levels false (first ∷ tokens) place state =
+    read_plain levels (moved place.mapping first.pos) (first ∷ tokens) place state
 
 -- a file ends with no condition open
-abbrev pub at_end : List Condition → State → Result State MacroNo
-at_end [] state = Ok state
-at_end (condition ∷ conditions) state = Err (M5 condition.pos)
+abbrev pub end_file : List Condition → State → Result State MacroNo
+end_file [] state = Ok state
+end_file (condition ∷ conditions) state = Err (M5 condition.pos)
 
--- the statements of a file, where this reads a file that is included
-unfoldable pub walk : (List Token → State → Result State MacroNo) → Context → ℕ → List Statement → Place → State → Result State MacroNo
-walk next context levels [] place state = at_end place.conditions state
-walk next context levels (statement ∷ statements) place state =
-    elim (read context levels statement.directive statement.tokens place state) [
-      | Err fault ↦ Err fault
-      | Ok step ↦ elim step.entered [
-        | None ↦ walk next context levels statements step.place step.state
-        | Some tokens ↦ elim (next tokens step.state) [
-          | Err fault ↦ Err fault
-          | Ok state ↦ walk next context levels statements step.place state
-        ]
-      ]
-    ]
+-- how a file is read that a statement includes
+abbrev pub Inner : Type 0
+Inner = List Token → State → Result State MacroNo
+
+abbrev pub read_entered : Inner → Option (List Token) → State → Result State MacroNo
+read_entered inner None state = Ok state
+read_entered inner (Some tokens) state = inner tokens state
+
+-- the statements of a file, one after the other
+unfoldable pub read_statements : Inner → Context → ℕ → List Statement → Place → State → Result State MacroNo
+read_statements inner context levels [] place state = end_file place.conditions state
+read_statements inner context levels (statement ∷ statements) place state = do
+  step ← read_statement context levels statement.directive statement.tokens place state
+  after ← read_entered inner step.entered step.state
+  read_statements inner context levels statements step.place after
 
 -- a file with so many levels left below it; where none is left nothing can be included
-unfoldable pub file : ℕ → Context → List Token → State → Result State MacroNo
-file zero context tokens state = walk (λ tokens state. Ok state) context zero (statements_of tokens) top state
-file (suc levels) context tokens state = walk (file levels context) context (suc levels) (statements_of tokens) top state
+unfoldable pub read_file : ℕ → Context → List Token → State → Result State MacroNo
+read_file zero context tokens state = read_statements (λ tokens state. Ok state) context zero (statements_of tokens) top state
+read_file (suc levels) context tokens state =
+    read_statements (read_file levels context) context (suc levels) (statements_of tokens) top state

@@ -15,4 +15,5 @@ pub mod Files
 pub mod LineNames
 pub mod Seen
 pub mod Builds
+pub mod Places
 pub mod Views

@@ -1,6 +1,6 @@
 -- The files that `#line` names.
-use Rattle.std.specs.Prelude.{ℕ, Bool, true, false, List, [], ◌∷◌, ◌++◌, Option, Some, None, bytes_eq, if◌then◌else◌}
-use Rattle.std.specs.List.{list_any, before_first}
+use Rattle.std.specs.Prelude.{ℕ, Bool, true, false, List, [], ◌∷◌, ◌++◌, Option, Some, None, option_to_list, bytes_eq, if◌then◌else◌}
+use Rattle.std.specs.List.{flat_map, list_any, before_first}
 use Rattle.asm_lex.specs.declared.token.Token.{Token}
 use Rattle.asm_macro.specs.declared.keyword.Keyword.{Keyword}
 use Rattle.asm_macro.specs.declared.keyword.Keyword.TheVariants as keywords
@@ -9,35 +9,29 @@ use Rattle.asm_macro.specs.Statements.{Statement, statements_of}
 use Rattle.asm_macro.specs.Directives.{keyword_of, LineMark, mark_in}
 use Rattle.asm_macro.specs.Files.{rest_of}
 
-abbrev pub marked : Option LineMark → Option (List ℕ)
-marked None = None
-marked (Some mark) = Some mark.name
+abbrev pub name_of : Option LineMark → Option (List ℕ)
+name_of None = None
+name_of (Some mark) = Some mark.name
 
-abbrev pub named_if : Keyword → List Token → Option (List ℕ)
-named_if keywords.Line words = marked (mark_in words)
-named_if _ words = None
+abbrev pub name_said : Keyword → List Token → Option (List ℕ)
+name_said keywords.Line words = name_of (mark_in words)
+name_said _ words = None
 
 -- the file that a directive names, if it is a `#line` of known form
-abbrev pub named_in : List Token → Option (List ℕ)
-named_in words = named_if (keyword_of words) (rest_of words)
+abbrev pub name_in_words : List Token → Option (List ℕ)
+name_in_words words = name_said (keyword_of words) (rest_of words)
 
-unfoldable pub named_by : Bool → List Token → Option (List ℕ)
-named_by is_directive [] = None
-named_by true (first ∷ tokens) = named_in (before_first is_newline tokens)
-named_by false (first ∷ tokens) = None
+unfoldable pub name_by : Bool → List Token → Option (List ℕ)
+name_by is_directive [] = None
+name_by true (first ∷ tokens) = name_in_words (before_first is_newline tokens)
+name_by false (first ∷ tokens) = None
 
-abbrev pub listed : Option (List ℕ) → List (List ℕ)
-listed None = []
-listed (Some name) = name ∷ []
+abbrev pub names_by : Statement → List (List ℕ)
+names_by statement = option_to_list (name_by statement.directive statement.tokens)
 
--- those of statements, also of branches that aren't taken
-unfoldable pub names_in : List Statement → List (List ℕ)
-names_in [] = []
-names_in (statement ∷ statements) = listed (named_by statement.directive statement.tokens) ++ names_in statements
-
-unfoldable pub names_in_files : List (List Token) → List (List ℕ)
-names_in_files [] = []
-names_in_files (tokens ∷ files) = names_in (statements_of tokens) ++ names_in_files files
+-- those of the statements of a file, also of branches that aren't taken
+abbrev pub names_in : List Token → List (List ℕ)
+names_in tokens = flat_map names_by (statements_of tokens)
 
 abbrev pub is_among : List ℕ → List (List ℕ) → Bool
 is_among name names = list_any (λ other. bytes_eq other name) names

@@ -1,7 +1,7 @@
 -- Positions, as `#line` moves them. A line number stops at 2 ^ 31 - 2.
 use Rattle.std.specs.Prelude.{ℕ, ◌+◌, ◌-◌, min, Option, Some, None}
 use Rattle.goasm_base.specs.declared.pos.Pos.{Pos}
-use Rattle.asm_lex.specs.Lines.{last_line}
+use Rattle.goasm_base.specs.Lines.{last_line}
 use Rattle.asm_macro.specs.declared.mapping.Mapping.{Mapping}
 
 -- the line behind the directive has its number, and those behind it count on

@@ -1,10 +1,16 @@
 -- What is refused.
-use Rattle.std.specs.Prelude.{◌≡◌, ℕ, Option, Some, None, Result, Err, nat_lt, if◌then◌else◌}
+use Rattle.std.specs.Prelude.{◌≡◌, ℕ, Option, Some, None, Result, Ok, Err, nat_lt, if◌then◌else◌}
 use Rattle.goasm_base.specs.declared.pos.Pos.{Pos}
 use Rattle.asm_macro.specs.declared.refusal.MacroNo.{MacroNo}
 use Rattle.asm_macro.specs.declared.refusal.MacroNo.TheVariants.{M1, M2, M3, M4, M5, M6, M7, Memory}
 use Rattle.asm_macro.specs.declared.cause.Cause.{Cause}
 use Rattle.asm_macro.specs.declared.cause.Cause.TheVariants as causes
+
+-- what comes next of an answer, or its refusal
+infixl 10 ◌>>=◌
+abbrev pub ◌>>=◌ : {A B : Type 0} → Result A MacroNo → (A → Result B MacroNo) → Result B MacroNo
+(Ok value) >>= next = next value
+(Err fault) >>= next = Err fault
 
 -- all but want of memory
 abbrev pub IsFault : MacroNo → Type 0

@@ -1,15 +1,20 @@
 -- What a text stands for: the bytes between its quotes, each escape in it for one byte.
-use Rattle.std.specs.Prelude.{ℕ, List, [], ◌∷◌, ◌+◌, ◌-◌, ◌*◌, ◌%◌, ◌==◌, nat_lt, length, take, drop, slice_index, if◌then◌else◌}
-use Rattle.goasm_base.specs.Numbers.{digit_value}
+use Rattle.std.specs.Prelude.{ℕ, List, [], ◌∷◌, ◌+◌, ◌-◌, ◌*◌, ◌==◌, nat_lt, length, take, drop, slice_index, if◌then◌else◌}
+use Rattle.std.specs.Char.{digit_value}
+use Rattle.goasm_base.specs.Ascii.{backslash}
 use Rattle.asm_lex.specs.declared.token.Token.{Token}
-use Rattle.asm_lex.specs.Characters.{backslash, first}
+use Rattle.asm_lex.specs.Characters.{first}
+
+-- the value of a hexadecimal digit; 0 for any other byte
+abbrev pub hex_value : ℕ → ℕ
+hex_value byte = if nat_lt (digit_value byte) 16 then digit_value byte else 0
 
 -- the byte that an escape stands for, behind its backslash. The letters are n, t and x
 unfoldable pub escape_value : List ℕ → ℕ
 escape_value bytes =
     if first bytes == 110 then 10
     else (if first bytes == 116 then 9
-    else (if first bytes == 120 then (16 * digit_value (slice_index bytes 1) + digit_value (slice_index bytes 2)) % 256
+    else (if first bytes == 120 then 16 * hex_value (slice_index bytes 1) + hex_value (slice_index bytes 2)
     else first bytes))
 
 -- how many bytes it takes there

@@ -3,7 +3,7 @@ use Rattle.std.specs.Prelude.{ℕ, Bool, true, false, List, [], ◌∷◌, ◌&&
 use Rattle.asm_lex.specs.declared.token.Kind.{Kind}
 use Rattle.asm_lex.specs.declared.token.Kind.TheVariants.{Word, Text, Sign, End}
 use Rattle.asm_lex.specs.declared.token.Token.{Token}
-use Rattle.asm_lex.specs.Characters.{newline}
+use Rattle.goasm_base.specs.Ascii.{newline}
 
 abbrev pub is_word_kind : Kind → Bool
 is_word_kind Word = true
@@ -42,9 +42,6 @@ is_sign character token = is_sign_kind token.kind && bytes_eq token.text (charac
 -- this word
 unfoldable pub says : List ℕ → Token → Bool
 says word token = is_word_kind token.kind && bytes_eq token.text word
-
-abbrev pub hash : ℕ
-hash = 35
 
 abbrev pub opening : ℕ
 opening = 40

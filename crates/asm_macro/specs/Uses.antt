@@ -103,8 +103,8 @@ abbrev pub ended : Pos → Option Cause → Work → Result Work MacroNo
 ended pos None work = Ok work
 ended pos (Some cause) work = Err (refusal cause pos)
 
-abbrev pub used : Work → ℕ → Work
-used work uses = record { out = work.out; room = work.room; uses = uses }
+abbrev pub with_uses : Work → ℕ → Work
+with_uses work uses = record { out = work.out; room = work.room; uses = uses }
 
 -- the uses of a statement, from left to right, while there may be this many. It ends at the token or the use that
 -- passes a limit
@@ -121,9 +121,9 @@ run (suc left) definitions pos found pending work =
       | Full ↦ Err (refusal (lower found TooMany) pos)
       | Met name definition rest next ↦
           let read = use_of found definition name rest in
-          run left definitions pos read.found read.pending (used next left)
+          run left definitions pos read.found read.pending (with_uses next left)
     ]
 
 -- a statement's tokens, expanded
-abbrev pub expanded : Definitions → Pos → List Placed → Work → Result Work MacroNo
-expanded definitions pos pending work = run work.uses definitions pos None pending work
+abbrev pub expand_statement : Definitions → Pos → List Placed → Work → Result Work MacroNo
+expand_statement definitions pos pending work = run work.uses definitions pos None pending work

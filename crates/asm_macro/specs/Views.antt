@@ -14,7 +14,7 @@ use Rattle.asm_macro.specs.declared.macros.ParameterMap.{ParameterMap}
 use Rattle.asm_macro.specs.declared.arguments.Arguments as declared_arguments
 use Rattle.asm_macro.specs.declared.work.Produced.{Produced}
 use Rattle.asm_macro.specs.declared.work.Met as declared_met
-use Rattle.asm_macro.specs.declared.statements.Piece.{Piece}
+use Rattle.asm_macro.specs.declared.statements.Statement as declared_statement
 use Rattle.asm_macro.specs.declared.files.Position.{Position}
 use Rattle.asm_macro.specs.declared.files.Environment.{Environment}
 use Rattle.asm_macro.specs.declared.files.Progress.{Progress}
@@ -45,7 +45,7 @@ abbrev pub parameters_if : Option ParameterMap → Option Parameters
 parameters_if parameters = option_map parameters_of parameters
 
 abbrev pub definition_of : Macro → Definition
-definition_of macro = record { parameters = parameters_if macro.parameters; body = macro.body.now; maker = macro.maker }
+definition_of macro = record { parameters = parameters_if macro.parameters; body = macro.body.now; origin = macro.origin }
 
 -- the macros that a map has
 abbrev pub macros_in : NameMap Macro → Definitions
@@ -73,8 +73,8 @@ abbrev pub front_of : Option declared_met.Met → List Placed → Work → Front
 front_of None pending work = Ended work
 front_of (Some met) pending work = Met met.name (definition_of met.definition.now) pending work
 
-abbrev pub statement_of : Piece → Statement
-statement_of piece = record { directive = piece.directive; tokens = piece.tokens.now }
+abbrev pub statement_of : declared_statement.Statement → Statement
+statement_of statement = record { directive = statement.directive; tokens = statement.tokens.now }
 
 abbrev pub name_of : Option (Bor (List ℕ)) → Option (List ℕ)
 name_of name = option_map (λ bytes. bytes.now) name

@@ -1,9 +1,10 @@
-ghost use Rattle.std.specs.Prelude.{◌≡◌, ◌<◌, ◌+◌, ◌^◌, [], length, map, All, IfOk, IfErr, Ok};
+ghost use Rattle.std.specs.Prelude.{◌≡◌, ◌<◌, ◌≤◌, ◌+◌, ◌^◌, length, map, All, IfOk, IfErr, Ok};
 ghost use Rattle.asm_lex.specs.Form.{AreTokens};
 ghost use Rattle.asm_macro.specs.Refusals.{IsFault, Refuses};
 ghost use Rattle.asm_macro.specs.Names.{nothing};
 ghost use Rattle.asm_macro.specs.Builds as spec;
-ghost use Rattle.asm_macro.specs.Builds.{line_names_of, greatest_file, outcome_of, Done, Refused};
+ghost use Rattle.asm_macro.specs.Builds.{line_names_of, greatest_file, token_count, outcome_of, Done, Refused};
+ghost use Rattle.asm_macro.specs.Places.{ArePlaced, StandIn, RefusedIn, IsBelow, file_count};
 ghost use Rattle.asm_macro.specs.Views.{names_of, definition_of, macros_in, files_in, context_of, AreBuiltIn};
 
 use crate::built_in::Rows;
@@ -30,6 +31,8 @@ pub const LIMITS: Limits = Limits {
 /// tokens of its value; `includes` are the files that `#include` finds by their names. They are refused exactly where
 /// something in them is, with the first refusal by statements in the order in which they are read, and at one
 /// statement the one with the lowest number. Only want of memory may come in place of any answer.
+///
+/// A result or a refusal stands in a file of the build or one that `#line` names, where the tokens handed in do.
 pub fn expand(
     alloc: Global,
     sources: &[Tokens],
@@ -44,6 +47,11 @@ pub fn expand(
     ensures refused { IfErr result
         (λ no. IsFault no → outcome_of sources.now includes.now defines.now ≡ Refused no) }
     ensures form { IfOk result (λ all. All AreTokens all.items) }
+    ensures few { IfOk result (λ all. token_count all.items ≤ 4000000) }
+    ensures places { ArePlaced sources.now includes.now defines.now → IfOk result
+        (λ all. All (StandIn (IsBelow (file_count sources.now includes.now defines.now))) all.items) }
+    ensures place { ArePlaced sources.now includes.now defines.now → IfErr result
+        (λ no. RefusedIn (IsBelow (file_count sources.now includes.now defines.now)) no) }
 {
     expand_within(alloc, LIMITS, sources, includes, defines)
 }
@@ -100,7 +108,6 @@ fn expand_named<'a>(
 }
 
 // The sources one after the other.
-#[tactic(auto, unfolding(crate::specs::Builds::sources_from))]
 fn expand_sources<'a>(
     alloc: Global,
     limits: Limits,
@@ -109,10 +116,10 @@ fn expand_sources<'a>(
     sources: &'a [Tokens],
 ) -> Result<Vec<Tokens>, MacroNo>
     requires { AreBuiltIn environment.now.built_in.now }
-    ensures ok { IfOk result (λ all. spec.sources_from limits.nesting (context_of environment.now) (macros_in given.now)
-        limits.tokens limits.uses [] sources.now ≡ Ok all.items) }
-    ensures err { IfErr result (λ no. Refuses (spec.sources_from limits.nesting (context_of environment.now) (macros_in given.now)
-        limits.tokens limits.uses [] sources.now) no) }
+    ensures ok { IfOk result (λ all. spec.expand_sources limits.nesting (context_of environment.now) (macros_in given.now)
+        limits.tokens limits.uses sources.now ≡ Ok all.items) }
+    ensures err { IfErr result (λ no. Refuses (spec.expand_sources limits.nesting (context_of environment.now) (macros_in given.now)
+        limits.tokens limits.uses sources.now) no) }
 {
     let mut all = Vec::new(alloc);
     let mut room = limits.tokens;
@@ -170,7 +177,7 @@ fn value_macro(tokens: &Tokens) -> Macro<'_>
     Macro {
         parameters: None,
         body: &list[..list.len().saturating_sub(1)],
-        maker: None,
+        origin: None,
     }
 }
 

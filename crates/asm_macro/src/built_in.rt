@@ -80,10 +80,10 @@ fn add_flag(
         pos: Pos { file: 0, line: 1 },
         glued: false,
         kind: Kind::Number(value),
-        text: Name::new(Vec::from_slice(alloc, text)?),
+        text: Name::from_slice(alloc, text)?,
     })?;
     rows.push(Row {
-        name: Name::new(Vec::from_slice(alloc, name)?),
+        name: Name::from_slice(alloc, name)?,
         body: List::new(body),
     })?;
     Ok(())
@@ -113,7 +113,7 @@ fn add_empty(alloc: Global, rows: &mut Vec<Row>, name: &[u8]) -> Result<(), Memo
     ensures { OnOk result (rows.new.items ≡ rows.old.items ++ spec.empty name.now ∷ []) }
 {
     rows.push(Row {
-        name: Name::new(Vec::from_slice(alloc, name)?),
+        name: Name::from_slice(alloc, name)?,
         body: List::new(Vec::new(alloc)),
     })?;
     Ok(())
@@ -130,11 +130,11 @@ fn funcdata(alloc: Global) -> Result<Vec<Row>, Memory>
     Ok(rows)
 }
 
-fn is_made_by(file: BuiltIn, maker: Option<BuiltIn>) -> bool
-    ensures { result ≡ spec.is_made_by file maker }
+fn is_defined_by(file: BuiltIn, origin: Option<BuiltIn>) -> bool
+    ensures { result ≡ spec.is_defined_by file origin }
 {
     matches!(
-        (file, maker),
+        (file, origin),
         (BuiltIn::Textflag, Some(BuiltIn::Textflag)) | (BuiltIn::Funcdata, Some(BuiltIn::Funcdata))
     )
 }
@@ -154,7 +154,7 @@ pub fn define_rows<'a>(
     for row in rows {
         match macros.get(row.name.as_slice()) {
             Some(there) => {
-                if !is_made_by(file, there.maker) {
+                if !is_defined_by(file, there.origin) {
                     return Err(MacroNo::M6(pos));
                 }
             }
@@ -163,7 +163,7 @@ pub fn define_rows<'a>(
                 Macro {
                     parameters: None,
                     body: row.body.as_slice(),
-                    maker: Some(file),
+                    origin: Some(file),
                 },
             )?,
         }

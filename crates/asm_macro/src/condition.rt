@@ -14,7 +14,7 @@ pub struct Condition {
     /// Whether the branch that is read is taken.
     pub taken: bool,
     /// Whether its `#else` has come.
-    pub turned: bool,
+    pub has_else: bool,
 }
 
 /// Whether statements behind these conditions count.
@@ -30,20 +30,20 @@ pub fn is_taken(conditions: &VecDeque<Condition>) -> bool
 
 /// Goes to the other branch of the innermost condition, at an `#else` that stands alone or not; whether it may stand
 /// there.
-#[tactic(auto, unfolding(crate::specs::Conditions::turned))]
-pub fn turn(conditions: &mut VecDeque<Condition>, alone: bool) -> Result<bool, Memory>
+#[tactic(auto, unfolding(crate::specs::Conditions::conditions_after_else))]
+pub fn go_to_else(conditions: &mut VecDeque<Condition>, alone: bool) -> Result<bool, Memory>
     ensures { IfOk result
-        (λ may. spec.turned alone conditions.old.items ≡ (if may then Some conditions.new.items else None)) }
+        (λ may. spec.conditions_after_else alone conditions.old.items ≡ (if may then Some conditions.new.items else None)) }
 {
     match conditions.pop_front() {
         None => Ok(false),
-        Some(condition) if condition.turned || (condition.judged && !alone) => Ok(false),
+        Some(condition) if condition.has_else || (condition.judged && !alone) => Ok(false),
         Some(condition) => {
             conditions.push_front(Condition {
                 pos: condition.pos,
                 judged: condition.judged,
                 taken: condition.judged && !condition.taken,
-                turned: true,
+                has_else: true,
             })?;
             Ok(true)
         }
@@ -51,9 +51,9 @@ pub fn turn(conditions: &mut VecDeque<Condition>, alone: bool) -> Result<bool, M
 }
 
 /// Leaves the innermost condition, at an `#endif` that stands alone or not; whether it may stand there.
-#[tactic(auto, unfolding(crate::specs::Conditions::left))]
+#[tactic(auto, unfolding(crate::specs::Conditions::conditions_after_endif))]
 pub fn leave(conditions: &mut VecDeque<Condition>, alone: bool) -> bool
-    ensures { spec.left alone conditions.old.items ≡ (if result then Some conditions.new.items else None) }
+    ensures { spec.conditions_after_endif alone conditions.old.items ≡ (if result then Some conditions.new.items else None) }
 {
     match conditions.pop_front() {
         None => false,

@@ -139,7 +139,7 @@ fn definition_behind<'a>(
                     definition: Macro {
                         parameters: Some(head.parameters),
                         body: head.body,
-                        maker: None,
+                        origin: None,
                     },
                 })),
             }
@@ -149,7 +149,7 @@ fn definition_behind<'a>(
             definition: Macro {
                 parameters: None,
                 body,
-                maker: None,
+                origin: None,
             },
         })),
     }

@@ -7,7 +7,7 @@ ghost use Rattle.asm_macro.specs.Conditions as conditions;
 ghost use Rattle.asm_macro.specs.Views.{definitions_of, context_of, place_of, state_of, entered_of, AreBuiltIn};
 
 use crate::built_in::{built_in_named, define_rows};
-use crate::condition::{Condition, leave, turn};
+use crate::condition::{Condition, go_to_else, leave};
 use crate::define::{definition_in, mark_in, name_in, quoted_in};
 use crate::files::{Environment, Position, Progress};
 use crate::keyword::Keyword;
@@ -76,8 +76,8 @@ fn undefine<'a>(
 
 // Counts the use of a file.
 fn count_use(progress: &mut Progress<'_, '_>, levels: usize, pos: Pos) -> Result<(), MacroNo>
-    ensures ok { OnOk result (spec.counted levels pos (state_of progress.old) ≡ Ok (state_of progress.new)) }
-    ensures err { IfErr result (λ no. Refuses (spec.counted levels pos (state_of progress.old)) no) }
+    ensures ok { OnOk result (spec.count_use levels pos (state_of progress.old) ≡ Ok (state_of progress.new)) }
+    ensures err { IfErr result (λ no. Refuses (spec.count_use levels pos (state_of progress.old)) no) }
 {
     if levels == 0 {
         return Err(MacroNo::M4(pos));
@@ -119,7 +119,7 @@ fn include_built_in<'a>(
 }
 
 // Includes a file: one of the build is to be read next.
-#[tactic(auto, unfolding(crate::specs::Files::include, crate::specs::Views::context_of))]
+#[tactic(auto, unfolding(crate::specs::Files::include, crate::specs::Files::include_named, crate::specs::Views::context_of))]
 fn include<'a>(
     alloc: Global,
     environment: &Environment<'a>,
@@ -178,7 +178,7 @@ fn push_condition(
     taken: bool,
 ) -> Result<(), MacroNo>
     ensures ok { OnOk result (place_of position.new ≡ spec.with_conditions (place_of position.old)
-        (record { pos = pos; judged = judged; taken = taken; turned = false } ∷ (place_of position.old).conditions)) }
+        (record { pos = pos; judged = judged; taken = taken; has_else = false } ∷ (place_of position.old).conditions)) }
     ensures err { IfErr result (λ no. IsFault no → ⊥) }
 {
     position
@@ -187,18 +187,18 @@ fn push_condition(
             pos,
             judged,
             taken,
-            turned: false,
+            has_else: false,
         })
         .map_err(|_| MacroNo::Memory)
 }
 
-fn turn_condition(position: &mut Position, pos: Pos, alone: bool) -> Result<(), MacroNo>
-    ensures ok { OnOk result (spec.balanced pos (place_of position.old) (conditions.turned alone (place_of position.old).conditions)
+fn enter_else(position: &mut Position, pos: Pos, alone: bool) -> Result<(), MacroNo>
+    ensures ok { OnOk result (spec.balanced_place pos (place_of position.old) (conditions.conditions_after_else alone (place_of position.old).conditions)
         ≡ Ok (place_of position.new)) }
     ensures err { IfErr result (λ no. Refuses
-        (spec.balanced pos (place_of position.old) (conditions.turned alone (place_of position.old).conditions)) no) }
+        (spec.balanced_place pos (place_of position.old) (conditions.conditions_after_else alone (place_of position.old).conditions)) no) }
 {
-    if turn(&mut position.conditions, alone)? {
+    if go_to_else(&mut position.conditions, alone)? {
         Ok(())
     } else {
         Err(MacroNo::M5(pos))
@@ -206,10 +206,10 @@ fn turn_condition(position: &mut Position, pos: Pos, alone: bool) -> Result<(), 
 }
 
 fn leave_condition(position: &mut Position, pos: Pos, alone: bool) -> Result<(), MacroNo>
-    ensures ok { OnOk result (spec.balanced pos (place_of position.old) (conditions.left alone (place_of position.old).conditions)
+    ensures ok { OnOk result (spec.balanced_place pos (place_of position.old) (conditions.conditions_after_endif alone (place_of position.old).conditions)
         ≡ Ok (place_of position.new)) }
     ensures err { IfErr result (λ no. Refuses
-        (spec.balanced pos (place_of position.old) (conditions.left alone (place_of position.old).conditions)) no) }
+        (spec.balanced_place pos (place_of position.old) (conditions.conditions_after_endif alone (place_of position.old).conditions)) no) }
 {
     if leave(&mut position.conditions, alone) {
         Ok(())
@@ -242,8 +242,8 @@ fn mark(
 }
 
 /// Does what a directive says, where statements count. The file that it includes, if any, is to be read next.
-#[tactic(auto, unfolding(crate::specs::Files::obey))]
-pub fn obey<'a>(
+#[tactic(auto, unfolding(crate::specs::Files::execute))]
+pub fn execute<'a>(
     alloc: Global,
     environment: &Environment<'a>,
     levels: usize,
@@ -252,11 +252,11 @@ pub fn obey<'a>(
     progress: &mut Progress<'_, 'a>,
 ) -> Result<Option<&'a [Token]>, MacroNo>
     requires { AreBuiltIn environment.now.built_in.now }
-    ensures ok { IfOk result (λ entered. spec.obey (context_of environment.now) levels directive.entry.pos directive.entry.end directive.entry.words.now
+    ensures ok { IfOk result (λ entered. spec.execute (context_of environment.now) levels directive.entry.pos directive.entry.end directive.entry.words.now
         (place_of position.old) (state_of progress.old) directive.entry.keyword
         ≡ Ok (record { place = place_of position.new; state = state_of progress.new; entered = entered_of entered })) }
     ensures err { IfErr result (λ no. Refuses
-        (spec.obey (context_of environment.now) levels directive.entry.pos directive.entry.end directive.entry.words.now
+        (spec.execute (context_of environment.now) levels directive.entry.pos directive.entry.end directive.entry.words.now
         (place_of position.old) (state_of progress.old) directive.entry.keyword) no) }
 {
     let Directive {
@@ -272,7 +272,7 @@ pub fn obey<'a>(
         Keyword::Include => return include(alloc, environment, progress, levels, pos, words),
         Keyword::Ifdef => open_condition(&progress.macros, position, true, pos, words)?,
         Keyword::Ifndef => open_condition(&progress.macros, position, false, pos, words)?,
-        Keyword::Else => turn_condition(position, pos, alone)?,
+        Keyword::Else => enter_else(position, pos, alone)?,
         Keyword::Endif => leave_condition(position, pos, alone)?,
         Keyword::Line => mark(alloc, environment, position, pos, end, words)?,
         Keyword::Other => return Err(MacroNo::M5(pos)),
@@ -292,7 +292,7 @@ pub fn skip(directive: Directive<'_>, position: &mut Position) -> Result<(), Mac
     let alone = directive.words.is_empty();
     match directive.keyword {
         Keyword::Ifdef | Keyword::Ifndef => push_condition(position, pos, false, false),
-        Keyword::Else => turn_condition(position, pos, alone),
+        Keyword::Else => enter_else(position, pos, alone),
         Keyword::Endif => leave_condition(position, pos, alone),
         Keyword::Define | Keyword::Undef | Keyword::Include | Keyword::Line | Keyword::Other => {
             Ok(())

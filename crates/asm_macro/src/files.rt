@@ -8,7 +8,7 @@ ghost use Rattle.asm_macro.specs.Views.{context_of, place_of, state_of, entered_
 
 use crate::built_in::Rows;
 use crate::condition::{Condition, is_taken};
-use crate::directives::{Directive, obey, skip};
+use crate::directives::{Directive, execute, skip};
 use crate::keyword::keyword_of;
 use crate::macros::Macros;
 use crate::mapping::{Mapping, moved};
@@ -16,7 +16,7 @@ use crate::names::NameMap;
 use crate::pending::Pending;
 use crate::placed::Placed;
 use crate::refusal::MacroNo;
-use crate::statements::{Piece, before_newline, behind_first, statements_of};
+use crate::statements::{Statement, before_newline, behind_first, statements_of};
 use crate::uses::{expand_statement, placed_at};
 use crate::work::Produced;
 use asm_lex::Token;
@@ -66,7 +66,7 @@ fn placed_in(
 }
 
 // Expands a statement that is no directive, where it counts.
-#[tactic(auto, unfolding(crate::specs::Files::plain))]
+#[tactic(auto, unfolding(crate::specs::Files::read_plain))]
 fn read_plain(
     alloc: Global,
     levels: usize,
@@ -75,10 +75,10 @@ fn read_plain(
     position: &Position,
     progress: &mut Progress<'_, '_>,
 ) -> Result<(), MacroNo>
-    ensures ok { OnOk result (spec.plain levels pos tokens.now (place_of position.now) (state_of progress.old)
-        ≡ spec.on (place_of position.now) (state_of progress.new)) }
+    ensures ok { OnOk result (spec.read_plain levels pos tokens.now (place_of position.now) (state_of progress.old)
+        ≡ spec.step_at (place_of position.now) (state_of progress.new)) }
     ensures err { IfErr result
-        (λ no. Refuses (spec.plain levels pos tokens.now (place_of position.now) (state_of progress.old)) no) }
+        (λ no. Refuses (spec.read_plain levels pos tokens.now (place_of position.now) (state_of progress.old)) no) }
 {
     if !is_taken(&position.conditions) {
         return Ok(());
@@ -95,7 +95,7 @@ fn read_plain(
 }
 
 // Does what a directive says, or passes it.
-#[tactic(auto, unfolding(crate::specs::Files::told))]
+#[tactic(auto, unfolding(crate::specs::Files::read_directive))]
 fn read_directive<'a>(
     alloc: Global,
     environment: &Environment<'a>,
@@ -105,14 +105,14 @@ fn read_directive<'a>(
     progress: &mut Progress<'_, 'a>,
 ) -> Result<Option<&'a [Token]>, MacroNo>
     requires { AreBuiltIn environment.now.built_in.now }
-    ensures ok { IfOk result (λ entered. spec.told (context_of environment.now) levels directive.entry.pos directive.entry.end
+    ensures ok { IfOk result (λ entered. spec.read_directive (context_of environment.now) levels directive.entry.pos directive.entry.end
         directive.entry.words.now (place_of position.old) (state_of progress.old) directive.entry.keyword
         ≡ Ok (record { place = place_of position.new; state = state_of progress.new; entered = entered_of entered })) }
-    ensures err { IfErr result (λ no. Refuses (spec.told (context_of environment.now) levels directive.entry.pos directive.entry.end
+    ensures err { IfErr result (λ no. Refuses (spec.read_directive (context_of environment.now) levels directive.entry.pos directive.entry.end
         directive.entry.words.now (place_of position.old) (state_of progress.old) directive.entry.keyword) no) }
 {
     if is_taken(&position.conditions) {
-        return obey(alloc, environment, levels, directive, position, progress);
+        return execute(alloc, environment, levels, directive, position, progress);
     }
     skip(directive, position)?;
     Ok(None)
@@ -135,31 +135,31 @@ fn directive_of<'a>(pos: Pos, end: u32, tokens: &'a [Token]) -> Directive<'a>
 }
 
 // Reads a statement. The file that it includes, if any, is to be read next.
-#[tactic(auto, unfolding(crate::specs::Files::read))]
+#[tactic(auto, unfolding(crate::specs::Files::read_statement))]
 fn read_statement<'a>(
     alloc: Global,
     environment: &Environment<'a>,
     levels: usize,
-    piece: Piece<'a>,
+    statement: Statement<'a>,
     position: &mut Position,
     progress: &mut Progress<'_, 'a>,
 ) -> Result<Option<&'a [Token]>, MacroNo>
     requires { AreBuiltIn environment.now.built_in.now }
-    ensures ok { IfOk result (λ entered. spec.read (context_of environment.now) levels piece.entry.directive piece.entry.tokens.now
+    ensures ok { IfOk result (λ entered. spec.read_statement (context_of environment.now) levels statement.entry.directive statement.entry.tokens.now
         (place_of position.old) (state_of progress.old)
         ≡ Ok (record { place = place_of position.new; state = state_of progress.new; entered = entered_of entered })) }
-    ensures err { IfErr result (λ no. Refuses (spec.read (context_of environment.now) levels piece.entry.directive piece.entry.tokens.now
+    ensures err { IfErr result (λ no. Refuses (spec.read_statement (context_of environment.now) levels statement.entry.directive statement.entry.tokens.now
         (place_of position.old) (state_of progress.old)) no) }
 {
-    let [first, tokens @ ..] = piece.tokens else {
+    let [first, tokens @ ..] = statement.tokens else {
         return Ok(None);
     };
     let pos = moved(position.mapping, first.pos);
-    if piece.directive {
-        let directive = directive_of(pos, end_line(first, piece.tokens), tokens);
+    if statement.directive {
+        let directive = directive_of(pos, end_line(first, statement.tokens), tokens);
         return read_directive(alloc, environment, levels, directive, position, progress);
     }
-    read_plain(alloc, levels, pos, piece.tokens, position, progress)?;
+    read_plain(alloc, levels, pos, statement.tokens, position, progress)?;
     Ok(None)
 }
 
@@ -175,9 +175,9 @@ fn end_line(first: &Token, tokens: &[Token]) -> u32
 
 // A file ends with no condition open.
 fn end_file(position: &Position) -> Result<(), MacroNo>
-    ensures ok { OnOk result ((state : spec.State) → spec.at_end (place_of position.now).conditions state ≡ Ok state) }
+    ensures ok { OnOk result ((state : spec.State) → spec.end_file (place_of position.now).conditions state ≡ Ok state) }
     ensures err { IfErr result
-        (λ no. IsFault no → (state : spec.State) → spec.at_end (place_of position.now).conditions state ≡ Err no) }
+        (λ no. IsFault no → (state : spec.State) → spec.end_file (place_of position.now).conditions state ≡ Err no) }
 {
     match position.conditions.front() {
         None => Ok(()),
@@ -186,7 +186,7 @@ fn end_file(position: &Position) -> Result<(), MacroNo>
 }
 
 /// Reads a file, below which so many levels of uses may nest.
-#[tactic(auto, unfolding(crate::specs::Files::walk, crate::specs::Files::file))]
+#[tactic(auto, unfolding(crate::specs::Files::read_statements, crate::specs::Files::read_file))]
 pub fn read_file<'a>(
     alloc: Global,
     environment: &Environment<'a>,
@@ -195,18 +195,25 @@ pub fn read_file<'a>(
     progress: &mut Progress<'_, 'a>,
 ) -> Result<(), MacroNo>
     requires { AreBuiltIn environment.now.built_in.now }
-    ensures ok { OnOk result (spec.file levels (context_of environment.now) tokens.now (state_of progress.old)
+    ensures ok { OnOk result (spec.read_file levels (context_of environment.now) tokens.now (state_of progress.old)
         ≡ Ok (state_of progress.new)) }
     ensures err { IfErr result
-        (λ no. Refuses (spec.file levels (context_of environment.now) tokens.now (state_of progress.old)) no) }
+        (λ no. Refuses (spec.read_file levels (context_of environment.now) tokens.now (state_of progress.old)) no) }
 {
     let mut position = Position {
         mapping: None,
         conditions: VecDeque::new(alloc),
     };
-    let pieces = statements_of(alloc, tokens)?;
-    for piece in &pieces {
-        let entered = read_statement(alloc, environment, levels, *piece, &mut position, progress)?;
+    let statements = statements_of(alloc, tokens)?;
+    for statement in &statements {
+        let entered = read_statement(
+            alloc,
+            environment,
+            levels,
+            *statement,
+            &mut position,
+            progress,
+        )?;
         if let Some(tokens) = entered {
             if levels > 0 {
                 read_file(alloc, environment, levels - 1, tokens, progress)?;

@@ -23,12 +23,12 @@ pub fn keyword_of(words: &[Token]) -> Keyword
 {
     match words {
         [] => Keyword::Other,
-        [word, ..] => spoken(word),
+        [word, ..] => word_keyword(word),
     }
 }
 
 #[tactic(auto, unfolding(crate::specs::Directives::keyword))]
-fn spoken(word: &Token) -> Keyword
+fn word_keyword(word: &Token) -> Keyword
     ensures { result ≡ spec.keyword word.now }
 {
     if says(b"define", word) {

@@ -25,9 +25,7 @@ mod tokens;
 mod uses;
 mod work;
 
-pub use builds::{expand, greatest_of};
+pub use builds::{expand, expand_within, greatest_of};
+pub use limits::Limits;
 pub use marks::line_names;
 pub use refusal::MacroNo;
-
-#[cfg(test)]
-mod tests;

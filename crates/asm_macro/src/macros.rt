@@ -27,7 +27,7 @@ pub struct Macro<'a> {
     pub parameters: Option<ParameterMap<'a>>,
     pub body: &'a [Token],
     /// The built-in file that defines it, where one does.
-    pub maker: Option<BuiltIn>,
+    pub origin: Option<BuiltIn>,
 }
 
 /// The macros in force: those of the build, as far as a source hasn't changed them.

@@ -1,10 +1,8 @@
 ghost use Rattle.std.specs.Prelude.{◌≡◌, ◌+◌, min};
-ghost use Rattle.asm_lex.specs.Lines.{last_line};
+ghost use Rattle.goasm_base.specs.Lines.{last_line};
 ghost use Rattle.asm_macro.specs.Positions as spec;
 
-use goasm_base::Pos;
-
-const LAST_LINE: u32 = 0x7FFF_FFFE;
+use goasm_base::{LAST_LINE, Pos};
 
 /// What a `#line` makes of the positions behind it.
 #[derive(Clone, Copy)]

@@ -1,22 +1,21 @@
-ghost use Rattle.std.specs.Prelude.{◌≡◌, ◌++◌, [], map, OnOk, IfOk};
-ghost use Rattle.asm_macro.specs.Statements as statements;
+ghost use Rattle.std.specs.Prelude.{◌≡◌, ◌≤◌, ◌++◌, ◌*◌, [], length, option_to_list, OnOk, IfOk};
+ghost use Rattle.std.specs.List.{flat_map};
 ghost use Rattle.asm_macro.specs.LineNames as spec;
-ghost use Rattle.asm_macro.specs.Builds.{line_names_of};
+ghost use Rattle.asm_macro.specs.Builds.{line_names_of, included_tokens, token_count};
 
 use crate::define::mark_in;
 use crate::keyword::{Keyword, keyword_of};
-use crate::statements::{Piece, before_newline, behind_first, statements_of};
+use crate::statements::{Statement, before_newline, behind_first, statements_of};
 use asm_lex::{Token, Tokens};
-use goasm_base::{Memory, Name};
+use goasm_base::{Memory, Name, NameSet};
 use std::alloc::Global;
-use std::collections::BTreeSet;
 use std::marker::Model;
 
 /// Names in the order in which they came first.
 #[derive(Drop)]
 struct Collector<'a> {
     names: Vec<Name>,
-    seen: BTreeSet<&'a [u8]>,
+    seen: NameSet<'a>,
 }
 
 impl<'a> Model for Collector<'a> {
@@ -36,7 +35,7 @@ impl<'a> Collector<'a> {
     {
         Collector {
             names: Vec::new(alloc),
-            seen: BTreeSet::new(alloc),
+            seen: NameSet::new(alloc),
         }
     }
 
@@ -45,14 +44,14 @@ impl<'a> Collector<'a> {
     fn with(self, alloc: Global, name: &'a [u8]) -> Result<Self, Memory>
         ensures { IfOk result (λ more. more ≡ spec.with_name self.entry name.now) }
     {
-        if self.seen.contains(&name) {
+        if self.seen.contains(name) {
             return Ok(self);
         }
         let Collector {
             mut names,
             mut seen,
         } = self;
-        names.push(Name::new(Vec::from_slice(alloc, name)?))?;
+        names.push(Name::from_slice(alloc, name)?)?;
         seen.insert(name)?;
         Ok(Collector { names, seen })
     }
@@ -77,18 +76,18 @@ fn distinct(alloc: Global, all: &[Name]) -> Result<Vec<Name>, Memory>
 }
 
 // The file that a statement names, if it is a `#line` of known form.
-#[tactic(auto, unfolding(crate::specs::LineNames::named_by))]
-fn named_by(alloc: Global, piece: Piece<'_>) -> Result<Option<Name>, Memory>
-    ensures { IfOk result (λ name. name ≡ spec.named_by piece.entry.directive piece.entry.tokens.now) }
+#[tactic(auto, unfolding(crate::specs::LineNames::name_by))]
+fn name_by(alloc: Global, statement: Statement<'_>) -> Result<Option<Name>, Memory>
+    ensures { IfOk result (λ name. name ≡ spec.name_by statement.entry.directive statement.entry.tokens.now) }
 {
-    match piece.tokens {
-        [_, tokens @ ..] if piece.directive => named_in(alloc, before_newline(tokens)),
+    match statement.tokens {
+        [_, tokens @ ..] if statement.directive => name_in_words(alloc, before_newline(tokens)),
         _ => Ok(None),
     }
 }
 
-fn named_in(alloc: Global, words: &[Token]) -> Result<Option<Name>, Memory>
-    ensures { IfOk result (λ name. name ≡ spec.named_in words.now) }
+fn name_in_words(alloc: Global, words: &[Token]) -> Result<Option<Name>, Memory>
+    ensures { IfOk result (λ name. name ≡ spec.name_in_words words.now) }
 {
     match keyword_of(words) {
         Keyword::Line => match mark_in(alloc, behind_first(words))? {
@@ -100,8 +99,8 @@ fn named_in(alloc: Global, words: &[Token]) -> Result<Option<Name>, Memory>
 }
 
 // Adds a name, if there is one.
-fn add_listed(names: &mut Vec<Name>, name: Option<Name>) -> Result<(), Memory>
-    ensures { OnOk result (names.new.items ≡ names.old.items ++ spec.listed name) }
+fn add_name(names: &mut Vec<Name>, name: Option<Name>) -> Result<(), Memory>
+    ensures { OnOk result (names.new.items ≡ names.old.items ++ option_to_list name) }
 {
     match name {
         None => {}
@@ -111,25 +110,23 @@ fn add_listed(names: &mut Vec<Name>, name: Option<Name>) -> Result<(), Memory>
 }
 
 // Adds the names of a file.
-#[tactic(auto, unfolding(crate::specs::LineNames::names_in))]
 fn add_file(alloc: Global, names: &mut Vec<Name>, tokens: &[Token]) -> Result<(), Memory>
-    ensures { OnOk result (names.new.items ≡ names.old.items ++ spec.names_in (statements.statements_of tokens.now)) }
+    ensures { OnOk result (names.new.items ≡ names.old.items ++ spec.names_in tokens.now) }
 {
-    let pieces = statements_of(alloc, tokens)?;
-    for piece in &pieces {
-        add_listed(names, named_by(alloc, *piece)?)?;
+    let statements = statements_of(alloc, tokens)?;
+    for statement in &statements {
+        add_name(names, name_by(alloc, *statement)?)?;
     }
     Ok(())
 }
 
-#[tactic(auto, unfolding(crate::specs::LineNames::names_in_files))]
 fn all_names(
     alloc: Global,
     sources: &[Tokens],
     includes: &[(Name, Tokens)],
 ) -> Result<Vec<Name>, Memory>
-    ensures { IfOk result (λ names. names.items ≡ spec.names_in_files
-        (map (λ tokens. tokens.list) sources.now ++ map (λ include. include.1.list) includes.now)) }
+    ensures { IfOk result (λ names. names.items
+        ≡ flat_map (λ tokens. spec.names_in tokens.list) (sources.now ++ included_tokens includes.now)) }
 {
     let mut names = Vec::new(alloc);
     for tokens in sources {
@@ -143,13 +140,17 @@ fn all_names(
 
 /// The distinct names of files in `#line` directives of known form, also of branches that aren't taken: those of the
 /// sources and then those of the includes, each at its first place. An escape in a name stands for its byte.
-#[tactic(auto, unfolding(crate::specs::Builds::line_names_of))]
+///
+/// A directive takes four tokens at least, so there are at most a quarter as many names as tokens.
+#[tactic(auto, unfolding(crate::specs::Builds::line_names_of), using(crate::proofs::LineNameLemmas::line_names_few))]
 pub fn line_names(
     alloc: Global,
     sources: &[Tokens],
     includes: &[(Name, Tokens)],
 ) -> Result<Vec<Name>, Memory>
-    ensures { IfOk result (λ names. names.items ≡ line_names_of sources.now includes.now) }
+    ensures names { IfOk result (λ names. names.items ≡ line_names_of sources.now includes.now) }
+    ensures few { 4 * length (line_names_of sources.now includes.now)
+        ≤ token_count (sources.now ++ included_tokens includes.now) }
 {
     let all = all_names(alloc, sources, includes)?;
     distinct(alloc, &all)

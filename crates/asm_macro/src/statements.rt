@@ -1,5 +1,5 @@
-ghost use Rattle.std.specs.Prelude.{◌≡◌, ◌&&◌, take, drop, map, position, IfOk};
-ghost use Rattle.std.specs.List.{list_any, before_first};
+ghost use Rattle.std.specs.Prelude.{◌≡◌, ◌+◌, ◌++◌, take, drop, map, position, OnOk, IfOk};
+ghost use Rattle.std.specs.List.{before_first, position_or_len};
 ghost use Rattle.asm_macro.specs.Files.{rest_of};
 ghost use Rattle.asm_macro.specs.Statements as spec;
 ghost use Rattle.asm_macro.specs.Tokens as tokens_spec;
@@ -12,7 +12,7 @@ use std::alloc::Global;
 
 /// A statement of a file.
 #[derive(Clone, Copy)]
-pub struct Piece<'a> {
+pub struct Statement<'a> {
     /// Whether it is a directive.
     pub directive: bool,
     /// Its tokens with its end.
@@ -20,34 +20,51 @@ pub struct Piece<'a> {
 }
 
 /// The statements of a file.
-#[tactic(auto, unfolding(crate::specs::Statements::statements_of, crate::specs::Statements::statements_within))]
-pub fn statements_of<'a>(alloc: Global, tokens: &'a [Token]) -> Result<Vec<Piece<'a>>, Memory>
-    ensures { IfOk result (λ pieces. map statement_of pieces.items ≡ spec.statements_of tokens.now) }
+#[tactic(auto, unfolding(crate::specs::Statements::statements_of))]
+pub fn statements_of<'a>(alloc: Global, tokens: &'a [Token]) -> Result<Vec<Statement<'a>>, Memory>
+    ensures { IfOk result (λ statements. map statement_of statements.items ≡ spec.statements_of tokens.now) }
 {
-    let mut pieces = Vec::new(alloc);
+    let mut statements = Vec::new(alloc);
     let mut rest = tokens;
-    let mut fresh = true;
-    // Each statement takes a token at least.
-    'statements: for _ in 0..tokens.len() {
-        if rest.is_empty() {
-            break;
-        }
-        let directive = is_directive(fresh, rest);
-        let (statement, behind) = split_statement(directive, rest);
-        pieces.push(Piece {
-            directive,
-            tokens: statement,
-        })?;
-        fresh = ends_line(statement);
+    'lines: while !rest.is_empty() {
+        let (line, behind) = split_line(rest);
+        add_line(&mut statements, line)?;
         rest = behind;
     }
-    Ok(pieces)
+    Ok(statements)
 }
 
-fn is_directive(fresh: bool, tokens: &[Token]) -> bool
-    ensures { result ≡ (fresh && spec.begins_with_hash tokens.now) }
+// Adds the statements of a line.
+#[tactic(auto, unfolding(crate::specs::Statements::statements_on))]
+fn add_line<'a>(statements: &mut Vec<Statement<'a>>, line: &'a [Token]) -> Result<(), Memory>
+    ensures { OnOk result (map statement_of statements.new.items
+        ≡ map statement_of statements.old.items ++ spec.statements_on line.now) }
 {
-    fresh && begins_with_hash(tokens)
+    if begins_with_hash(line) {
+        statements.push(Statement {
+            directive: true,
+            tokens: line,
+        })?;
+        return Ok(());
+    }
+    add_parts(statements, line)
+}
+
+// Adds a statement for each part of a line up to an end.
+fn add_parts<'a>(statements: &mut Vec<Statement<'a>>, line: &'a [Token]) -> Result<(), Memory>
+    ensures { OnOk result (map statement_of statements.new.items
+        ≡ map statement_of statements.old.items ++ map spec.plain (spec.split_inclusive tokens_spec.is_end line.now)) }
+{
+    let mut rest = line;
+    'parts: while !rest.is_empty() {
+        let (tokens, behind) = split_part(rest);
+        statements.push(Statement {
+            directive: false,
+            tokens,
+        })?;
+        rest = behind;
+    }
+    Ok(())
 }
 
 fn begins_with_hash(tokens: &[Token]) -> bool
@@ -59,44 +76,38 @@ fn begins_with_hash(tokens: &[Token]) -> bool
     }
 }
 
-fn ends_line(tokens: &[Token]) -> bool
-    ensures { result ≡ list_any tokens_spec.is_newline tokens.now }
+fn first_newline(tokens: &[Token]) -> Option<usize>
+    ensures { result ≡ position tokens_spec.is_newline tokens.now }
 {
-    tokens.iter().any(is_newline)
+    tokens.iter().position(is_newline)
 }
 
-fn is_last(directive: bool, token: &Token) -> bool
-    ensures { result ≡ spec.is_last directive token.now }
+fn first_end(tokens: &[Token]) -> Option<usize>
+    ensures { result ≡ position tokens_spec.is_end tokens.now }
 {
-    if directive {
-        is_newline(token)
-    } else {
-        is_end(token)
-    }
+    tokens.iter().position(is_end)
 }
 
-fn first_last(directive: bool, tokens: &[Token]) -> Option<usize>
-    ensures { result ≡ position (spec.is_last directive) tokens.now }
+// The tokens up to the first newline and with it, and those behind it.
+fn split_line(tokens: &[Token]) -> (&[Token], &[Token])
+    ensures front { result.0.now ≡ take (position_or_len tokens_spec.is_newline tokens.now + 1) tokens.now }
+    ensures behind { result.1.now ≡ drop (position_or_len tokens_spec.is_newline tokens.now + 1) tokens.now }
 {
-    tokens.iter().position(|token| is_last(directive, token))
-}
-
-// A statement, and what stands behind it.
-#[tactic(auto, unfolding(crate::specs::Statements::statement_len))]
-fn split_statement(directive: bool, tokens: &[Token]) -> (&[Token], &[Token])
-    ensures front { result.0.now ≡ take (spec.statement_len directive tokens.now) tokens.now }
-    ensures behind { result.1.now ≡ drop (spec.statement_len directive tokens.now) tokens.now }
-{
-    match first_last(directive, tokens) {
+    match first_newline(tokens) {
         Some(at) => tokens.split_at(at + 1),
         None => (tokens, &[]),
     }
 }
 
-fn first_newline(tokens: &[Token]) -> Option<usize>
-    ensures { result ≡ position tokens_spec.is_newline tokens.now }
+// The tokens up to the first end and with it, and those behind it.
+fn split_part(tokens: &[Token]) -> (&[Token], &[Token])
+    ensures front { result.0.now ≡ take (position_or_len tokens_spec.is_end tokens.now + 1) tokens.now }
+    ensures behind { result.1.now ≡ drop (position_or_len tokens_spec.is_end tokens.now + 1) tokens.now }
 {
-    tokens.iter().position(is_newline)
+    match first_end(tokens) {
+        Some(at) => tokens.split_at(at + 1),
+        None => (tokens, &[]),
+    }
 }
 
 /// The tokens before the end of a line.

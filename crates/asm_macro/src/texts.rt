@@ -1,9 +1,8 @@
-ghost use Rattle.std.specs.Prelude.{◌≡◌, ◌≤◌, ◌+◌, ◌-◌, ◌*◌, ◌%◌, length, take, drop, slice_index, IfOk};
-ghost use Rattle.goasm_base.specs.Numbers.{digit_value};
+ghost use Rattle.std.specs.Prelude.{◌≡◌, ◌<◌, ◌-◌, length, take, drop, slice_index, IfOk};
 ghost use Rattle.asm_macro.specs.Texts as spec;
 
 use asm_lex::Token;
-use goasm_base::{Memory, Name};
+use goasm_base::{Memory, Name, behind, digit_value};
 use std::alloc::Global;
 
 /// What a text stands for: the bytes between its quotes, each escape in it for one byte.
@@ -50,15 +49,9 @@ fn escape_value(bytes: &[u8]) -> u8
     match byte_at(bytes, 0) {
         b'n' => b'\n',
         b't' => b'\t',
-        b'x' => hex_value(byte_at(bytes, 1), byte_at(bytes, 2)),
+        b'x' => 16 * hex_value(byte_at(bytes, 1)) + hex_value(byte_at(bytes, 2)),
         byte => byte,
     }
-}
-
-fn hex_value(high: u8, low: u8) -> u8
-    ensures { result ≡ (16 * digit_value high + digit_value low) % 256 }
-{
-    ((16 * u32::from(digit(high)) + u32::from(digit(low))) % 256) as u8
 }
 
 #[tactic(auto, unfolding(crate::specs::Texts::escape_len))]
@@ -68,14 +61,6 @@ fn escape_len(bytes: &[u8]) -> usize
     if byte_at(bytes, 0) == b'x' { 3 } else { 1 }
 }
 
-// The bytes from a place on.
-fn behind(bytes: &[u8], at: usize) -> &[u8]
-    requires { at ≤ length bytes.now }
-    ensures { result.now ≡ drop at bytes.now }
-{
-    &bytes[at..]
-}
-
 // The byte at a place; 0 past the end.
 fn byte_at(bytes: &[u8], place: usize) -> u8
     ensures { result ≡ slice_index bytes.now place }
@@ -83,16 +68,13 @@ fn byte_at(bytes: &[u8], place: usize) -> u8
     if place < bytes.len() { bytes[place] } else { 0 }
 }
 
-// What a glyph counts as a digit; 16 where it is none.
-#[tactic(auto, unfolding(goasm_base::specs::Numbers::digit_value))]
-fn digit(glyph: u8) -> u8
-    ensures value { result ≡ digit_value glyph }
-    ensures bound { result ≤ 16 }
+// The value of a hexadecimal digit; 0 for any other byte.
+fn hex_value(byte: u8) -> u8
+    ensures value { result ≡ spec.hex_value byte }
+    ensures bound { result < 16 }
 {
-    match glyph {
-        b'0'..=b'9' => glyph - b'0',
-        b'a'..=b'f' => glyph - b'a' + 10,
-        b'A'..=b'F' => glyph - b'A' + 10,
-        _ => 16,
+    match digit_value(16, byte) {
+        Some(value) => value as u8,
+        None => 0,
     }
 }

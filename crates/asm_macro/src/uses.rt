@@ -169,10 +169,10 @@ pub fn expand_statement(
     pending: Pending,
     pos: Pos,
 ) -> Result<(), MacroNo>
-    ensures ok { OnOk result (spec.expanded (definitions_of macros.now) pos pending (work_of produced.old)
+    ensures ok { OnOk result (spec.expand_statement (definitions_of macros.now) pos pending (work_of produced.old)
         ≡ Ok (work_of produced.new)) }
     ensures err { IfErr result
-        (λ no. Refuses (spec.expanded (definitions_of macros.now) pos pending (work_of produced.old)) no) }
+        (λ no. Refuses (spec.expand_statement (definitions_of macros.now) pos pending (work_of produced.old)) no) }
 {
     let mut pending = pending;
     let mut found = None;

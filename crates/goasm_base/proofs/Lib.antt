@@ -1,1 +1,4 @@
 mod NumberLemmas
+mod NameSetLemmas
+pub mod RefusalLemmas
+mod Examples

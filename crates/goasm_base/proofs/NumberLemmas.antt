@@ -1,5 +1,6 @@
 use Rattle.std.proofs.Common.{◌≡◌, ℕ, suc, ◌+◌, ◌*◌, ◌^◌, ◌<◌, ◌≤◌, List, [], ◌∷◌, length, drop, get_or, drop-cons, arith}
-use Rattle.goasm_base.specs.Numbers.{digit_value, value_after}
+use Rattle.std.specs.Char.{digit_value}
+use Rattle.goasm_base.specs.Numbers.{value_after}
 
 grows : (base before digit : ℕ) → 1 ≤ base → before ≤ base * before + digit
 grows base before digit positive = grind arith

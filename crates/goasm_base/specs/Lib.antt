@@ -1,4 +1,9 @@
+pub mod Ascii
+pub mod Lines
 pub mod Numbers
+pub mod Statements
+pub mod Refusals
+pub mod NameSet
 pub mod Shelf
 pub mod Sink
 pub mod MemShelf

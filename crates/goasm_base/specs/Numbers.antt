@@ -1,16 +1,13 @@
 -- The exact text of a number, and the numbers that a user may write.
-use Rattle.std.specs.Prelude.{ℕ, zero, suc, ℤ, List, [], ◌∷◌, ◌++◌, ◌+◌, ◌-◌, ◌*◌, ◌/◌, ◌%◌, ◌^◌, ◌&&◌, ◌==◌, nat_lt, nat_le, length, drop, slice_index, Option, Some, None, if◌then◌else◌}
+use Rattle.std.specs.Prelude.{ℕ, zero, suc, ℤ, List, [], ◌∷◌, ◌++◌, ◌+◌, ◌*◌, ◌/◌, ◌%◌, ◌^◌, ◌&&◌, ◌==◌, nat_lt, nat_le, length, drop, slice_index, Option, Some, None, if◌then◌else◌}
 use Rattle.std.specs.List.{list_all}
 use Rattle.std.specs.Fmt.{signed_decimal}
-
--- the small glyph of a hexadecimal digit
-abbrev pub hex_glyph : ℕ → ℕ
-hex_glyph digit = if nat_lt digit 10 then 48 + digit else 87 + digit
+use Rattle.std.specs.Char.{digit_char, digit_value, is_digit}
 
 -- the last digits of a number in base 16, this many
 unfoldable pub hex_digits : ℕ → ℕ → List ℕ
 hex_digits zero value = []
-hex_digits (suc count) value = hex_digits count (value / 16) ++ hex_glyph (value % 16) ∷ []
+hex_digits (suc count) value = hex_digits count (value / 16) ++ digit_char (value % 16) ∷ []
 
 -- `0x` and sixteen small hexadecimal digits: how an address is shown
 abbrev pub hex_text : ℕ → List ℕ
@@ -20,14 +17,6 @@ hex_text value = 48 ∷ 120 ∷ hex_digits 16 value
 abbrev pub decimal_text : ℤ → List ℕ
 decimal_text value = signed_decimal value
 
--- what a glyph counts as a digit, small or capital; 16 where it is none
-unfoldable pub digit_value : ℕ → ℕ
-digit_value glyph =
-    if nat_le 48 glyph && nat_le glyph 57 then glyph - 48
-    else (if nat_le 97 glyph && nat_le glyph 102 then glyph - 87
-    else (if nat_le 65 glyph && nat_le glyph 70 then glyph - 55
-    else 16))
-
 -- the number that digits stand for after a number that stands before them, the highest digit first
 abbrev pub value_after : ℕ → ℕ → List ℕ → ℕ
 value_after base before [] = before
@@ -36,7 +25,7 @@ value_after base before (glyph ∷ glyphs) = value_after base (base * before + d
 -- the number that one or more digits of a base spell, where it is below 2 ^ 64
 abbrev pub numeral : ℕ → List ℕ → Option ℕ
 numeral base digits =
-    if nat_lt 0 (length digits) && list_all (λ glyph. nat_lt (digit_value glyph) base) digits
+    if nat_lt 0 (length digits) && list_all (λ glyph. is_digit glyph base) digits
     && nat_lt (value_after base 0 digits) (2 ^ 64)
     then Some (value_after base 0 digits) else None
 

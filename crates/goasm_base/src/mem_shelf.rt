@@ -3,9 +3,7 @@ ghost use Rattle.std.specs.List.{list_any};
 ghost use Rattle.goasm_base.specs.Shelf.{Reads, Rose, counted};
 ghost use Rattle.goasm_base.specs.MemShelf.{file_named, read_fails, after_read};
 
-use crate::bytes::Bytes;
-use crate::memory::Memory;
-use crate::name::Name;
+use crate::bytes::{Bytes, Name};
 use crate::shelf::{Shelf, ShelfNo};
 use std::alloc::Global;
 use std::marker::Model;
@@ -60,12 +58,6 @@ fn is_listed(failing: &[u32], number: u64) -> bool
     failing.iter().any(|listed| u64::from(*listed) == number)
 }
 
-fn copied(alloc: Global, bytes: &[u8]) -> Result<Bytes, Memory>
-    ensures { IfOk result (λ copy. copy ≡ bytes.now) }
-{
-    Ok(Bytes::new(Vec::from_slice(alloc, bytes)?))
-}
-
 impl Shelf for MemShelf {
     ghost holds = { λ s. Some (file_named s.files) };
 
@@ -103,7 +95,7 @@ impl Shelf for MemShelf {
                 } else {
                     bytes.len()
                 };
-                Ok(copied(alloc, &bytes[..count])?)
+                Ok(Bytes::from_slice(alloc, &bytes[..count])?)
             }
             None => {
                 self.faults = self.faults.saturating_add(1);

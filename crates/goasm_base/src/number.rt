@@ -1,5 +1,6 @@
 ghost use Rattle.std.specs.Prelude.{◌≡◌, ◌+◌, ◌*◌, ◌^◌, ◌<◌, ◌≤◌, ◌++◌, SomeIff};
 ghost use Rattle.arrayvec.specs.ArrayVec.{array_vec_len};
+ghost use Rattle.std.specs.Char.{digit_char, digit_value};
 ghost use Rattle.goasm_base.specs.Numbers as numbers;
 ghost use Rattle.goasm_base.specs.Numbers.{hex_text, hex_digits, decimal_text, number_of};
 
@@ -30,7 +31,7 @@ fn push_hex_digits(count: u8, value: u64, to: &mut ArrayVec<u8, 18>)
 
 fn hex_glyph(digit: u8) -> u8
     requires { digit < 16 }
-    ensures { result ≡ numbers.hex_glyph digit }
+    ensures { result ≡ digit_char digit }
 {
     if digit < 10 {
         b'0' + digit
@@ -68,42 +69,33 @@ pub fn read_number(text: &[u8]) -> Option<u64>
 }
 
 #[tactic(auto, using(crate::proofs::NumberLemmas::overflows))]
-fn numeral(base: u64, digits: &[u8]) -> Option<u64>
+fn numeral(base: u32, digits: &[u8]) -> Option<u64>
     requires low { 2 ≤ base }
     requires high { base ≤ 16 }
     ensures { result ≡ numbers.numeral base digits.now }
 {
     let mut value: u64 = 0;
     for glyph in digits {
-        let digit = digit_value(*glyph);
-        if digit >= base {
-            return None;
-        }
-        match with_digit(base, value, digit) {
-            Some(longer) => value = longer,
-            None => return None,
-        }
+        let digit = digit_value(base, *glyph)?;
+        value = with_digit(base, value, digit)?;
     }
     if digits.is_empty() { None } else { Some(value) }
 }
 
 // The number with one more digit behind it.
-fn with_digit(base: u64, value: u64, digit: u64) -> Option<u64>
+fn with_digit(base: u32, value: u64, digit: u32) -> Option<u64>
     ensures { SomeIff result (base * value + digit < 2 ^ 64) (base * value + digit) }
 {
-    base.checked_mul(value)?.checked_add(digit)
+    u64::from(base)
+        .checked_mul(value)?
+        .checked_add(u64::from(digit))
 }
 
-// What a glyph counts as a digit; 16 where it is none.
-#[tactic(auto, unfolding(crate::specs::Numbers::digit_value))]
-fn digit_value(glyph: u8) -> u64
-    ensures { result ≡ numbers.digit_value glyph }
+/// What a glyph counts as a digit of this base, small or capital; `None` where it is no such digit.
+pub fn digit_value(base: u32, glyph: u8) -> Option<u32>
+    requires low { 2 ≤ base }
+    requires high { base ≤ 36 }
+    ensures { SomeIff result (digit_value glyph < base) (digit_value glyph) }
 {
-    let value = match glyph {
-        b'0'..=b'9' => glyph - b'0',
-        b'a'..=b'f' => glyph - b'a' + 10,
-        b'A'..=b'F' => glyph - b'A' + 10,
-        _ => 16,
-    };
-    u64::from(value)
+    char::from(glyph).to_digit(base)
 }

@@ -1,12 +1,8 @@
 use Rattle.std.proofs.Common.{◌≡◌, ℕ, ◌+◌, ◌<◌, ◌≤◌, ◌⊎◌, Bool, true, false, ◌&&◌, ◌||◌, cond, List, [], ◌∷◌, ◌++◌, length, get_or, IsTrue, inl, inr, refl, sym, ap, ◌∙◌, arith, bytes_eq}
 use Rattle.std.specs.List.{list_any}
-use Rattle.std.specs.Borrow.{Bor}
-use Rattle.std.specs.BTreeMap.{is_at}
-use Rattle.std.specs.BTreeSet.{BTreeSet, contains, Updates}
 use Rattle.std.proofs.lemmas.Bool.{leb-false, or_right}
 use Rattle.std.proofs.lemmas.List.Folds.{list_any-append}
 use Rattle.std.proofs.lemmas.List.Sums.{sum_by_push}
-use Rattle.std.proofs.lemmas.Map.Text.{is_eq-slice_cmp}
 use Rattle.std.proofs.Math.Bool.{or-false}
 use Rattle.goasm_list.specs.declared.line.LineKind.{LineKind}
 use Rattle.goasm_list.specs.declared.line.LineKind.TheVariants.{Asm, Stub, Include, Define, Outside, Entry}
@@ -17,7 +13,8 @@ use Rattle.std.proofs.lemmas.Bool.{false_from_ne_true}
 use Rattle.std.proofs.lemmas.List.Folds.{list_any_at}
 use Rattle.std.proofs.lemmas.List.Elements.{All-push}
 use Rattle.std.proofs.lemmas.List.Quantifiers.{all_pairs_push}
-use Rattle.goasm_list.specs.Reader.{by_bytes, Keeps}
+use Rattle.goasm_list.specs.Reader.{Keeps}
+use Rattle.goasm_base.specs.NameSet.{is_among, AddsName}
 
 any_push : (test : ListLine → Bool) (lines : List ListLine) (line : ListLine)
     → list_any test (lines ++ line ∷ []) ≡ (list_any test lines || test line)
@@ -57,9 +54,9 @@ sound_push lines line sound stands files = record {
 }
 
 -- what is kept of the lines with one more, in terms of what is kept of them
-keeps_push : (lines : List ListLine) (line : ListLine) (outside : BTreeSet (Bor (List ℕ))) (files : ℕ) (entry : Bool)
+keeps_push : (lines : List ListLine) (line : ListLine) (outside : List (List ℕ)) (files : ℕ) (entry : Bool)
     → IsSound lines → Stands lines line
-    → ((name : Bor (List ℕ)) → contains by_bytes outside name ≡ (has_outside lines name.now || (is_outside line.kind && bytes_eq line.name name.now)))
+    → ((name : List ℕ) → is_among name outside ≡ (has_outside lines name || (is_outside line.kind && bytes_eq line.name name)))
     → files ≡ file_count lines + cond (names_file line.kind) 1 0
     → files ≤ most_files
     → entry ≡ (has_entry lines || is_entry line.kind)
@@ -67,7 +64,7 @@ keeps_push : (lines : List ListLine) (line : ListLine) (outside : BTreeSet (Bor 
 keeps_push lines line outside files entry sound stands names count room entered =
     let counted : files ≡ file_count (lines ++ line ∷ []) = count ∙ sym (count_push lines line) in
     record {
-      names = λ name. names name ∙ sym (any_push (λ l. is_outside l.kind && bytes_eq l.name name.now) lines line);
+      names = λ name. names name ∙ sym (any_push (λ l. is_outside l.kind && bytes_eq l.name name) lines line);
       count = counted;
       room = room;
       entered = entered ∙ sym (any_push (λ l. is_entry l.kind) lines line);
@@ -88,7 +85,7 @@ has_room lines kind name (inl is) fits = leb-false _ _ (rw is at fits)
 has_room lines kind name (inr (inl is)) fits = leb-false _ _ (rw is at fits)
 has_room lines kind name (inr (inr is)) fits = leb-false _ _ (rw is at fits)
 
-pub keeps_file : (lines : List ListLine) (line : ListLine) (outside : BTreeSet (Bor (List ℕ))) (files : ℕ) (entry : Bool)
+pub keeps_file : (lines : List ListLine) (line : ListLine) (outside : List (List ℕ)) (files : ℕ) (entry : Bool)
     → (line.kind ≡ Asm) ⊎ ((line.kind ≡ Stub) ⊎ (line.kind ≡ Include)) → Keeps lines outside files entry
     → Stands lines line → Keeps (lines ++ line ∷ []) outside (files + 1) entry
 keeps_file lines line outside files entry is keeps stands =
@@ -96,34 +93,30 @@ keeps_file lines line outside files entry is keeps stands =
     let room : file_count lines < most_files = has_room lines line.kind line.name is stands.room in
     let counted : files ≡ file_count lines = keeps.count in
     keeps_push lines line outside (files + 1) entry keeps.sound stands
-    (λ name. rw file.1 (keeps.names name ∙ sym (or-false (has_outside lines name.now))))
+    (λ name. rw file.1 (keeps.names name ∙ sym (or-false (has_outside lines name))))
     (rw file.0 (omega arith)) (omega arith) (rw file.2 (keeps.entered ∙ sym (or-false (has_entry lines))))
 
-pub keeps_define : (lines : List ListLine) (line : ListLine) (outside : BTreeSet (Bor (List ℕ))) (files : ℕ) (entry : Bool)
+pub keeps_define : (lines : List ListLine) (line : ListLine) (outside : List (List ℕ)) (files : ℕ) (entry : Bool)
     → line.kind ≡ Define → Keeps lines outside files entry → Stands lines line → Keeps (lines ++ line ∷ []) outside files entry
 keeps_define lines line outside files entry is keeps stands =
     let counted : files ≡ file_count lines = keeps.count in
     keeps_push lines line outside files entry keeps.sound stands
-    (λ name. rw is (keeps.names name ∙ sym (or-false (has_outside lines name.now))))
+    (λ name. rw is (keeps.names name ∙ sym (or-false (has_outside lines name))))
     (rw is (omega arith)) keeps.room (rw is (keeps.entered ∙ sym (or-false (has_entry lines))))
 
-pub keeps_entry : (lines : List ListLine) (line : ListLine) (outside : BTreeSet (Bor (List ℕ))) (files : ℕ) (entry : Bool)
+pub keeps_entry : (lines : List ListLine) (line : ListLine) (outside : List (List ℕ)) (files : ℕ) (entry : Bool)
     → line.kind ≡ Entry → Keeps lines outside files entry → Stands lines line → Keeps (lines ++ line ∷ []) outside files true
 keeps_entry lines line outside files entry is keeps stands =
     let counted : files ≡ file_count lines = keeps.count in
     keeps_push lines line outside files true keeps.sound stands
-    (λ name. rw is (keeps.names name ∙ sym (or-false (has_outside lines name.now))))
+    (λ name. rw is (keeps.names name ∙ sym (or-false (has_outside lines name))))
     (rw is (omega arith)) keeps.room (rw is (sym (or_right (has_entry lines) true refl)))
 
-told : (here before : Bool) → cond here true before ≡ (before || here)
-told true before = sym (or_right before true refl)
-told false before = sym (or-false before)
-
-pub keeps_outside : (lines : List ListLine) (line : ListLine) (name : Bor (List ℕ)) (outside more : BTreeSet (Bor (List ℕ))) (files : ℕ) (entry : Bool)
-    → line.kind ≡ Outside → line.name ≡ name.now → Updates by_bytes outside more name true
+pub keeps_outside : (lines : List ListLine) (line : ListLine) (outside more : List (List ℕ)) (files : ℕ) (entry : Bool)
+    → line.kind ≡ Outside → AddsName outside more line.name
     → Keeps lines outside files entry → Stands lines line → Keeps (lines ++ line ∷ []) more files entry
-keeps_outside lines line name outside more files entry is named updates keeps stands =
+keeps_outside lines line outside more files entry is adds keeps stands =
     let counted : files ≡ file_count lines = keeps.count in
     keeps_push lines line more files entry keeps.sound stands
-    (λ other. rw (is, named, ← is_eq-slice_cmp name.now other.now, ← keeps.names other) (updates.0 other ∙ told (is_at (by_bytes name) other) (contains by_bytes outside other)))
+    (λ other. rw (is, ← keeps.names other) (adds other))
     (rw is (omega arith)) keeps.room (rw is (keeps.entered ∙ sym (or-false (has_entry lines))))

@@ -1,6 +1,6 @@
-use Rattle.std.proofs.Common.{◌≡◌, ℕ, zero, suc, Bool, true, false, ◌+◌, ◌<◌, ◌≤◌, ◌++◌, List, [], ◌∷◌, length, take, drop, get_or, Some, None, Ok, Err, inl, inr, refl, sym, ap, ◌∙◌, arith, add-one, drop-cons, length-drop}
+use Rattle.std.proofs.Common.{◌≡◌, ◌≢◌, ℕ, suc, Bool, true, false, ◌+◌, ◌<◌, ◌≤◌, ◌++◌, List, [], ◌∷◌, length, take, drop, get_or, Some, None, Ok, Err, refl, sym, ap, ◌∙◌, arith, add-one, drop-cons, length-drop}
+use Rattle.std.specs.Option.{option_map}
 use Rattle.std.specs.List.{onto_first, before_first, after_first, position_or_len}
-use Rattle.std.proofs.lemmas.Bool.{cases_lt}
 use Rattle.std.proofs.Math.Numerals.{one-add}
 use Rattle.goasm_list.specs.declared.line.ListLine.{ListLine}
 use Rattle.goasm_list.specs.declared.fault.ListNo.{ListNo}
@@ -8,8 +8,10 @@ use Rattle.goasm_list.specs.declared.fault.ListNo.TheVariants.{Q1, Memory}
 use Rattle.goasm_list.specs.Texts.{is_newline, texts_of}
 use Rattle.goasm_list.specs.Form.{form_of}
 use Rattle.goasm_list.specs.Rules.{refuses}
-use Rattle.goasm_list.specs.Lists.{form_at, line_in, lines_in, refused_in, refused_line, list_of, Refuses}
+use Rattle.goasm_list.specs.Lists.{form_at, line_in, lines_in, refused_at, refused_line, refusal_of, list_of}
 use Rattle.goasm_list.specs.Reader.{Follows}
+use Rattle.goasm_base.specs.Refusals.{first_below}
+use Rattle.goasm_base.proofs.RefusalLemmas.{below_zero, below_next, below_found}
 
 -- the first line of bytes that aren't empty, and those behind it
 abbrev Begins : List ℕ → Type 0
@@ -46,26 +48,14 @@ text_here texts index rest some behind inside =
     = sym (drop-cons texts index [] inside) ∙ behind ∙ first_text rest some in
     (cc, ap (λ next. drop next texts) (add-one index) ∙ cc)
 
--- one more line that isn't refused
-pub refused_next : (texts : List (List ℕ)) (index : ℕ)
-    → refused_in index texts ≡ None → refuses (lines_in index texts) (form_at texts index) ≡ false
-    → refused_in (index + 1) texts ≡ None
-unfolding refused_in
-refused_next texts index before here = rw (add-one, before, here) refl
+-- a line that isn't refused, and one that is
+passes : (texts : List (List ℕ)) (index : ℕ)
+    → refuses (lines_in index texts) (form_at texts index) ≡ false → refused_at texts index ≡ None
+passes texts index here = rw here refl
 
--- the first line that is
-pub refused_found : (texts : List (List ℕ)) (index count : ℕ) → index < count
-    → refused_in index texts ≡ None → refuses (lines_in index texts) (form_at texts index) ≡ true
-    → refused_in count texts ≡ Some (index + 1)
-unfolding refused_in
-refused_found texts index zero inside before here = absurd (omega arith)
-refused_found texts index (suc count) inside before here =
-    elim (cases_lt index count) [
-      | inl earlier ↦ rw (refused_found texts index count earlier before here) refl
-      | inr last ↦
-          let same : count ≡ index = omega arith in
-          rw (same, before, here) refl
-    ]
+stops : (texts : List (List ℕ)) (index : ℕ)
+    → refuses (lines_in index texts) (form_at texts index) ≡ true → refused_at texts index ≡ Some (index + 1)
+stops texts index here = rw here refl
 
 pub lines_next : (texts : List (List ℕ)) (index : ℕ)
     → lines_in (index + 1) texts ≡ lines_in index texts ++ line_in (index + 1) (form_at texts index)
@@ -78,18 +68,18 @@ pub record Reached (bytes : List ℕ) (number : ℕ) (rest : List ℕ) (read : L
   pub count : number + length (texts_of rest) ≡ length (texts_of bytes)
   pub room : number + length rest ≤ length bytes
   pub lines : read ≡ lines_in number (texts_of bytes)
-  pub none : refused_in number (texts_of bytes) ≡ None
+  pub none : first_below number (refused_at (texts_of bytes)) ≡ None
 
 pub reached_none : (bytes : List ℕ) → Reached bytes 0 bytes []
-unfolding lines_in refused_in
-reached_none bytes = record { behind = refl; count = omega arith; room = omega arith; lines = refl; none = refl }
+unfolding lines_in
+reached_none bytes = record { behind = refl; count = omega arith; room = omega arith; lines = refl; none = below_zero (refused_at (texts_of bytes)) }
 
 pub reached_all : (bytes : List ℕ) (number : ℕ) (rest : List ℕ) (lines : List ListLine)
-    → Reached bytes number rest lines → length rest ≡ 0 → (refused_line bytes ≡ None) × (lines ≡ list_of bytes)
+    → Reached bytes number rest lines → length rest ≡ 0 → (refusal_of bytes ≡ None) × (lines ≡ list_of bytes)
 unfolding refused_line list_of texts_of
 reached_all bytes number [] lines reached none =
     let all : number ≡ length (texts_of bytes) = omega (arith, reached.count) in
-    (rw all at reached.none, rw all at reached.lines)
+    (ap (option_map Q1) (rw all at reached.none), rw all at reached.lines)
 reached_all bytes number (byte ∷ rest) lines reached none = absurd (omega arith)
 
 -- the next line's text and the bytes behind it
@@ -119,17 +109,20 @@ reached_next bytes number rest text behind lines next reached some is after foll
       count = rw after here.3;
       room = rw after here.4;
       lines = follows.1 ∙ rw (form, reached.lines) (sym (lines_next (texts_of bytes) number));
-      none = refused_next (texts_of bytes) number reached.none (rw (reached.lines, form) at follows.0);
+      none = below_next (refused_at (texts_of bytes)) number reached.none
+          (passes (texts_of bytes) number (rw (reached.lines, form) at follows.0));
     }
 
 pub reached_refused : (bytes : List ℕ) (number : ℕ) (rest text : List ℕ) (lines : List ListLine) (no : ListNo)
     → Reached bytes number rest lines → 0 < length rest → text ≡ before_first is_newline rest
     → Follows (Err no) lines (number + 1) (form_of text)
-    → Refuses no (refused_line bytes)
+    → no ≢ Memory → refusal_of bytes ≡ Some no
 unfolding refused_line
-reached_refused bytes number rest text lines (Q1 refused) reached some is follows =
+reached_refused bytes number rest text lines (Q1 refused) reached some is follows other =
     let here = turn bytes number rest lines reached some in
     let form : form_of text ≡ form_at (texts_of bytes) number = ap form_of (is ∙ sym here.1) in
-    rw follows.1
-    (refused_found (texts_of bytes) number (length (texts_of bytes)) here.0 reached.none (rw (reached.lines, form) at follows.0))
-reached_refused bytes number rest text lines Memory reached some is follows = tt
+    let found : refused_line bytes ≡ Some (number + 1)
+    = below_found (refused_at (texts_of bytes)) number (length (texts_of bytes)) (number + 1) here.0 reached.none
+    (stops (texts_of bytes) number (rw (reached.lines, form) at follows.0)) in
+    rw (follows.1, found) refl
+reached_refused bytes number rest text lines Memory reached some is follows other = absurd (other refl)

@@ -4,6 +4,7 @@ use Rattle.std.specs.Prelude.{ℕ, Bool, List, [], ◌==◌, ◌&&◌, not, slic
 use Rattle.std.specs.Option.{option_and_then}
 use Rattle.std.specs.List.{list_any}
 use Rattle.std.specs.Str.{is_utf8}
+use Rattle.goasm_base.specs.Ascii.{number_sign}
 use Rattle.goasm_base.specs.Numbers.{number_of}
 use Rattle.goasm_list.specs.declared.line.LineKind.{LineKind}
 use Rattle.goasm_list.specs.declared.line.LineKind.TheVariants.{Asm, Stub, Include, Define, Outside, Entry}
@@ -90,7 +91,7 @@ worded_form text =
     else line_or_faulty (option_and_then (λ kind. parts_of kind (behind_word text)) (kind_of (first_word text)))
 
 abbrev pub is_comment : List ℕ → Bool
-is_comment text = slice_index text 0 == 35
+is_comment text = slice_index text 0 == number_sign
 
 -- A text has a form only where it is UTF-8. One that begins with `#` is a comment; in any other no byte is 0.
 unfoldable pub form_of : List ℕ → Form

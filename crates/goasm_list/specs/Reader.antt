@@ -1,10 +1,6 @@
 -- What a reader keeps beside the lines that it read, so that no line is held against all earlier ones.
 use Rattle.std.specs.Prelude.{◌≡◌, ℕ, Bool, List, ◌≤◌, ◌++◌, Result, Ok, Err, false, true}
-use Rattle.std.specs.Borrow.{Bor}
-use Rattle.std.specs.Cmp.Lexicographic.{slice_cmp}
-use Rattle.std.specs.declared.cmp.Ordering.{Ordering}
-use Rattle.std.specs.Ordering.{nat_cmp}
-use Rattle.std.specs.BTreeSet.{BTreeSet, contains}
+use Rattle.goasm_base.specs.NameSet.{is_among}
 use Rattle.goasm_list.specs.declared.line.ListLine.{ListLine}
 use Rattle.goasm_list.specs.declared.fault.ListNo.{ListNo}
 use Rattle.goasm_list.specs.declared.fault.ListNo.TheVariants.{Q1, Memory}
@@ -13,13 +9,9 @@ use Rattle.goasm_list.specs.Rules.{most_files, file_count, has_outside, has_entr
 use Rattle.goasm_list.specs.Sound.{IsSound}
 use Rattle.goasm_list.specs.Lists.{line_in}
 
--- the order of names that stand in the list's bytes
-abbrev pub by_bytes : Bor (List ℕ) → Bor (List ℕ) → Ordering
-by_bytes a b = slice_cmp nat_cmp a.now b.now
-
 -- the outside names, the number of files, whether there is an entry, and what holds of all that was read
-pub record Keeps (lines : List ListLine) (outside : BTreeSet (Bor (List ℕ))) (files : ℕ) (entry : Bool) : Type 0 where
-  pub names : (name : Bor (List ℕ)) → contains by_bytes outside name ≡ has_outside lines name.now
+pub record Keeps (lines : List ListLine) (outside : List (List ℕ)) (files : ℕ) (entry : Bool) : Type 0 where
+  pub names : (name : List ℕ) → is_among name outside ≡ has_outside lines name
   pub count : files ≡ file_count lines
   pub room : files ≤ most_files
   pub entered : entry ≡ has_entry lines

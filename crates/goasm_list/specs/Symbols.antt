@@ -1,20 +1,15 @@
 -- What `outside` and `entry` lines may name, and where what lies outside an image may lie.
 use Rattle.std.specs.Prelude.{ℕ, Bool, false, List, [], ◌∷◌, ◌%◌, ◌==◌, ◌&&◌, ◌||◌, nat_le}
 use Rattle.std.specs.List.{list_all}
-
-abbrev pub is_letter : ℕ → Bool
-is_letter byte = (nat_le 65 byte && nat_le byte 90) || (nat_le 97 byte && nat_le byte 122)
-
-abbrev pub is_digit : ℕ → Bool
-is_digit byte = nat_le 48 byte && nat_le byte 57
+use Rattle.goasm_base.specs.Ascii.{is_ascii_alphabetic, is_ascii_digit, underscore, slash, dot}
 
 -- a letter, `_` or `/`
 abbrev pub opens_symbol : ℕ → Bool
-opens_symbol byte = is_letter byte || byte == 95 || byte == 47
+opens_symbol byte = is_ascii_alphabetic byte || byte == underscore || byte == slash
 
 -- one of these, a digit or `.`
 abbrev pub continues_symbol : ℕ → Bool
-continues_symbol byte = opens_symbol byte || is_digit byte || byte == 46
+continues_symbol byte = opens_symbol byte || is_ascii_digit byte || byte == dot
 
 -- a name that a word of a source stands for: U+00B7 in the word is `.` in the name and U+2215 is `/`, and a name
 -- that would begin with `.` begins with `main.`

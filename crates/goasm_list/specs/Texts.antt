@@ -1,9 +1,10 @@
 -- The texts of a file's lines, without their newlines.
 use Rattle.std.specs.Prelude.{ℕ, Bool, List, [], ◌∷◌, ◌==◌, if◌then◌else◌}
 use Rattle.std.specs.List.{onto_first}
+use Rattle.goasm_base.specs.Ascii.{newline}
 
 abbrev pub is_newline : ℕ → Bool
-is_newline byte = byte == 10
+is_newline byte = byte == newline
 
 -- each newline ends a line; the last line may lack it
 unfoldable pub texts_of : List ℕ → List (List ℕ)

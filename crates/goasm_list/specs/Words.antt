@@ -1,10 +1,11 @@
 -- The words of a line's text. One or more spaces separate them, and may stand before the first and behind the
--- last; a space is the byte 32 alone.
+-- last; no other white space does.
 use Rattle.std.specs.Prelude.{ℕ, Bool, List, ◌==◌, not, length, drop}
+use Rattle.goasm_base.specs.Ascii.{space}
 use Rattle.std.specs.List.{position_or_len, before_first, after_first}
 
 abbrev pub is_space : ℕ → Bool
-is_space byte = byte == 32
+is_space byte = byte == space
 
 abbrev pub is_glyph : ℕ → Bool
 is_glyph byte = not (is_space byte)

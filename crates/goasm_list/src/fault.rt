@@ -1,7 +1,4 @@
-ghost use Rattle.goasm_list.specs.declared.fault.ListNo.TheVariants.{Memory as OutOfMemory};
-ghost use Rattle.std.specs.Prelude.{◌≡◌};
-
-use std::alloc::{AllocError, AllocFailed};
+use goasm_base::Memory;
 use thiserror::Error;
 
 /// Why bytes gave no build list.
@@ -16,18 +13,13 @@ pub enum ListNo {
     Memory,
 }
 
-impl From<AllocError> for ListNo {
-    ghost from_gives = { λ _ no. no ≡ OutOfMemory };
+impl From<Memory> for ListNo {
+    ghost use Rattle.std.specs.Prelude.{◌≡◌};
+    ghost use Rattle.goasm_list.specs.declared.fault.ListNo.TheVariants as numbers;
 
-    fn from(_: AllocError) -> Self {
-        ListNo::Memory
-    }
-}
+    ghost from_gives = { λ _ no. no ≡ numbers.Memory };
 
-impl<T: Drop> From<AllocFailed<T>> for ListNo {
-    ghost from_gives = { λ _ no. no ≡ OutOfMemory };
-
-    fn from(_: AllocFailed<T>) -> Self {
+    fn from(_: Memory) -> Self {
         ListNo::Memory
     }
 }

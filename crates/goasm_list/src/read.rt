@@ -1,6 +1,7 @@
 ghost use Rattle.std.specs.Prelude.{◌≡◌, ◌^◌, ◌<◌, length, IfOk};
+ghost use Rattle.goasm_base.specs.Refusals.{Judges};
 ghost use Rattle.goasm_list.specs.Sound.{IsSound, AreWithin};
-ghost use Rattle.goasm_list.specs.Lists.{Judges, refused_line, list_of};
+ghost use Rattle.goasm_list.specs.Lists.{refusal_of, list_of};
 
 use crate::fault::ListNo;
 use crate::line::BuildList;
@@ -17,7 +18,7 @@ use std::alloc::Global;
 /// `goasm_base::read_number` reads, and is a multiple of 4 from 0x1000 to 0x3FFFFC; another address is no form.
 pub fn read_list(alloc: Global, bytes: &[u8]) -> Result<BuildList, ListNo>
     requires { length bytes.now < 2 ^ 32 }
-    ensures exact { Judges result (refused_line bytes.now) }
+    ensures exact { Judges ListNo.Memory result (refusal_of bytes.now) }
     ensures lines { IfOk result (λ list. list.lines ≡ list_of bytes.now) }
     ensures sound { IfOk result (λ list. IsSound list.lines) }
     ensures numbers { IfOk result (λ list. AreWithin (length bytes.now) list.lines) }

@@ -10,9 +10,8 @@ ghost use Rattle.goasm_list.specs.Reader.{Follows};
 use crate::fault::ListNo;
 use crate::form::{Draft, Reading, read_text};
 use crate::line::{LineKind, ListLine};
-use goasm_base::{Bytes, Name};
-use std::alloc::{AllocError, Global};
-use std::collections::BTreeSet;
+use goasm_base::{Bytes, Memory, Name, NameSet};
+use std::alloc::Global;
 use std::marker::Model;
 
 // How many files a list may name.
@@ -23,7 +22,7 @@ const MOST_FILES: u32 = 1000;
 pub struct Reader<'a> {
     lines: Vec<ListLine>,
     // The names of the `outside` lines.
-    outside: BTreeSet<&'a [u8]>,
+    outside: NameSet<'a>,
     // How many of the lines name files.
     files: u32,
     // Whether one of the lines is an `entry`.
@@ -49,7 +48,7 @@ impl<'a> Reader<'a> {
     {
         Reader {
             lines: Vec::new(alloc),
-            outside: BTreeSet::new(alloc),
+            outside: NameSet::new(alloc),
             files: 0,
             entry: false,
         }
@@ -86,13 +85,13 @@ impl<'a> Reader<'a> {
         match draft.kind {
             LineKind::Asm | LineKind::Stub | LineKind::Include => self.files >= MOST_FILES,
             LineKind::Define => false,
-            LineKind::Outside => self.outside.contains(&draft.name),
+            LineKind::Outside => self.outside.contains(draft.name),
             LineKind::Entry => self.entry,
         }
     }
 
     // The same reader with one more line.
-    fn with(self, alloc: Global, number: u32, draft: &Draft<'a>) -> Result<Self, AllocError>
+    fn with(self, alloc: Global, number: u32, draft: &Draft<'a>) -> Result<Self, Memory>
         requires room { is_excess self draft.now.kind draft.now.name.now ≡ false }
         requires whole { IsWhole (parts_in draft.now) }
         ensures { IfOk result (λ reader. reader ≡ self.entry ++ line_of number (parts_in draft.now) ∷ []) }
@@ -121,14 +120,14 @@ impl<'a> Reader<'a> {
     }
 }
 
-fn made_line(alloc: Global, number: u32, draft: &Draft<'_>) -> Result<ListLine, AllocError>
+fn made_line(alloc: Global, number: u32, draft: &Draft<'_>) -> Result<ListLine, Memory>
     ensures { IfOk result (λ line. line ≡ line_of number (parts_in draft.now)) }
 {
     Ok(ListLine {
         line: number,
         kind: draft.kind,
-        name: Name::new(Vec::from_slice(alloc, draft.name)?),
-        rest: Bytes::new(Vec::from_slice(alloc, draft.rest)?),
+        name: Name::from_slice(alloc, draft.name)?,
+        rest: Bytes::from_slice(alloc, draft.rest)?,
         at: draft.at,
     })
 }

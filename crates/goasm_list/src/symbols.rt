@@ -22,13 +22,13 @@ fn all_continue(bytes: &[u8]) -> bool
 fn opens_symbol(byte: u8) -> bool
     ensures { result ≡ spec.opens_symbol byte }
 {
-    matches!(byte, b'A'..=b'Z' | b'a'..=b'z' | b'_' | b'/')
+    byte.is_ascii_alphabetic() || byte == b'_' || byte == b'/'
 }
 
 fn continues_symbol(byte: u8) -> bool
     ensures { result ≡ spec.continues_symbol byte }
 {
-    opens_symbol(byte) || matches!(byte, b'0'..=b'9' | b'.')
+    opens_symbol(byte) || byte.is_ascii_digit() || byte == b'.'
 }
 
 /// Whether what lies outside an image may lie at this address.

@@ -1,5 +1,5 @@
 -- The line of a refusal, with its newline. A file is named as the list of names has it at the file's number.
-use Rattle.std.specs.Prelude.{ℕ, pos, List, [], ◌∷◌, ◌++◌, slice_index_or, codes, Option, Some, None}
+use Rattle.std.specs.Prelude.{◌≡◌, ℕ, pos, List, [], ◌∷◌, ◌++◌, ◌<◌, length, take, slice_index_or, codes, Option, Some, None, IfSome, IsSome}
 use Rattle.goasm_base.specs.declared.pos.Pos.{Pos}
 use Rattle.goasm_base.specs.Numbers.{decimal_text}
 use Rattle.asm_lex.specs.declared.refusal.LexNo.{LexNo}
@@ -17,6 +17,10 @@ newline = 10 ∷ []
 -- the name of the file of this number; empty where there is none
 abbrev pub name_in : List (List ℕ) → ℕ → List ℕ
 name_in files number = slice_index_or files number []
+
+-- a text has gained a front of these bytes
+abbrev pub AppendsFront : List ℕ → List ℕ → List ℕ → Type 0
+AppendsFront old new bytes = (count : ℕ) × (new ≡ old ++ take count bytes)
 
 -- `FILE:LINE`
 abbrev pub place_text : List (List ℕ) → Pos → List ℕ
@@ -71,6 +75,22 @@ table_offset (TB6 offset) = offset
 abbrev pub table_line : List ℕ → TableNo → List ℕ
 table_line name fault =
     name ++ codes ": " ++ table_code fault ++ codes " at " ++ decimal_text (pos (table_offset fault)) ++ newline
+
+-- the refusal isn't want of memory, which has no line
+abbrev pub HasCause : Refusal → Type 0
+HasCause (Lex why) = IsSome (lex_cause why)
+HasCause (Macro why) = IsSome (macro_cause why)
+HasCause (Table why) = Unit {0}
+
+-- the place of a cause, if it has one, is in a file that has a name
+abbrev pub IsNamed : List (List ℕ) → Option (List ℕ × Pos) → Type 0
+IsNamed files cause = IfSome cause (λ cause. cause.1.file < length files)
+
+-- each file of a refusal has a name; a table is the first of the files
+abbrev pub HasName : List (List ℕ) → Refusal → Type 0
+HasName files (Lex why) = IsNamed files (lex_cause why)
+HasName files (Macro why) = IsNamed files (macro_cause why)
+HasName files (Table why) = 0 < length files
 
 -- the line of a refusal over these names of files; a table is the first of them
 abbrev pub line_of : Refusal → List (List ℕ) → List ℕ

@@ -4,8 +4,6 @@
 mod lines;
 mod message;
 mod refusal;
-#[cfg(test)]
-mod tests;
 
 pub use lines::push_place;
 pub use message::line_of;

@@ -1,8 +1,8 @@
 // The forms of lines.
-ghost use Rattle.std.specs.Prelude.{◌≡◌, pos, ◌++◌, codes, IfOk, OnOk};
+ghost use Rattle.std.specs.Prelude.{◌≡◌, pos, ◌++◌, codes, IfOk, OnOk, OnErr};
 ghost use Rattle.goasm_base.specs.Numbers.{decimal_text};
 ghost use Rattle.goasm_text.specs.Lines as spec;
-ghost use Rattle.goasm_text.specs.Lines.{place_text, place_line, newline};
+ghost use Rattle.goasm_text.specs.Lines.{AppendsFront, place_text, place_line, newline};
 
 use goasm_base::{Bytes, Memory, Name, Pos, Text};
 use std::alloc::Global;
@@ -18,9 +18,10 @@ pub fn name_in(files: &[Name], number: usize) -> &[u8]
 }
 
 /// Appends `FILE:LINE`. `files` has the name of each file at the file's number; a number that it doesn't have has the
-/// empty name.
+/// empty name. Where memory is wanting, a front of it may have been appended.
 pub fn push_place(text: &mut Text, files: &[Name], at: Pos) -> Result<(), Memory>
-    ensures { OnOk result (text.new ≡ text.old ++ place_text files.now at) }
+    ensures ok { OnOk result (text.new ≡ text.old ++ place_text files.now at) }
+    ensures err { OnErr result (AppendsFront text.old text.new (place_text files.now at)) }
 {
     text.push(name_in(files, at.file as usize))?;
     text.push(b":")?;

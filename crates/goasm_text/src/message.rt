@@ -1,6 +1,6 @@
-ghost use Rattle.std.specs.Prelude.{◌≡◌, IfOk};
+ghost use Rattle.std.specs.Prelude.{◌≡◌, ◌<◌, length, IsSome, IfOk};
 ghost use Rattle.goasm_text.specs.Lines as spec;
-ghost use Rattle.goasm_text.specs.Lines.{lex_cause, macro_cause, cause_line, table_code, table_offset, table_line};
+ghost use Rattle.goasm_text.specs.Lines.{HasCause, HasName, IsNamed, lex_cause, macro_cause, cause_line, table_code, table_offset, table_line};
 
 use crate::lines::{at_offset, at_place, name_in};
 use crate::refusal::Refusal;
@@ -11,12 +11,14 @@ use pclntab::TableNo;
 use std::alloc::Global;
 
 /// The line that tells a refusal, with its newline. `files` has the name of each file at the file's number, the
-/// names of `#line` directives too; a function table is the first of them. A number that it doesn't have has the
-/// empty name.
+/// names of `#line` directives too; a function table is the first of them. Each file that the refusal speaks of has to
+/// have a name there, and the refusal may not be want of memory, which no line tells.
 ///
 /// The line is `FILE:LINE: CODE` for a source and its expansion, and `FILE: CODE at OFFSET` for a function table.
-/// Want of memory has no line. `Memory` comes only for want of memory.
+/// `Memory` comes only for want of memory.
 pub fn line_of(alloc: Global, refusal: &Refusal, files: &[Name]) -> Result<Bytes, Memory>
+    requires cause { HasCause refusal.now }
+    requires files { HasName files.now refusal.now }
     ensures { IfOk result (λ line. line ≡ spec.line_of refusal.now files.now) }
 {
     match refusal {
@@ -27,6 +29,8 @@ pub fn line_of(alloc: Global, refusal: &Refusal, files: &[Name]) -> Result<Bytes
 }
 
 fn of_source(alloc: Global, no: LexNo, files: &[Name]) -> Result<Bytes, Memory>
+    requires cause { IsSome (lex_cause no) }
+    requires files { IsNamed files.now (lex_cause no) }
     ensures { IfOk result (λ line. line ≡ cause_line files.now (lex_cause no)) }
 {
     match no {
@@ -34,11 +38,13 @@ fn of_source(alloc: Global, no: LexNo, files: &[Name]) -> Result<Bytes, Memory>
         LexNo::L2(pos) => at_place(alloc, files, pos, b"L2"),
         LexNo::L3(pos) => at_place(alloc, files, pos, b"L3"),
         LexNo::L4(pos) => at_place(alloc, files, pos, b"L4"),
-        LexNo::Memory => Err(Memory),
+        LexNo::Memory => unreachable!(),
     }
 }
 
 fn of_expansion(alloc: Global, no: MacroNo, files: &[Name]) -> Result<Bytes, Memory>
+    requires cause { IsSome (macro_cause no) }
+    requires files { IsNamed files.now (macro_cause no) }
     ensures { IfOk result (λ line. line ≡ cause_line files.now (macro_cause no)) }
 {
     match no {
@@ -49,7 +55,7 @@ fn of_expansion(alloc: Global, no: MacroNo, files: &[Name]) -> Result<Bytes, Mem
         MacroNo::M5(pos) => at_place(alloc, files, pos, b"M5"),
         MacroNo::M6(pos) => at_place(alloc, files, pos, b"M6"),
         MacroNo::M7(pos) => at_place(alloc, files, pos, b"M7"),
-        MacroNo::Memory => Err(Memory),
+        MacroNo::Memory => unreachable!(),
     }
 }
 

@@ -8,8 +8,9 @@ use Rattle.pcvalue.specs.Table.{value_in, is_pc_table}
 use Rattle.pclntab.specs.declared.fault.TableNo.TheVariants.{TB2, TB5}
 use Rattle.pclntab.specs.Words.{u32_at, u64_at}
 use Rattle.pclntab.specs.Texts.{text_in}
-use Rattle.pclntab.specs.Faults.{first_below, header_fault, tables_fault, entry_fault, order_fault, record_fault, name_fault, pc_fault, func_fault, table_fault}
-use Rattle.pclntab.specs.Func.{first_passing, func_at, name_of, answer_at, depth_at, line_at, file_at, file_name}
+use Rattle.pclntab.specs.Faults.{header_fault, tables_fault, entry_fault, order_fault, record_fault, name_fault, pc_fault, func_fault, table_fault}
+use Rattle.goasm_base.specs.Refusals.{first_below}
+use Rattle.pclntab.specs.Func.{func_at, name_of, answer_at, depth_at, line_at, file_at, file_name}
 use Rattle.pclntab.specs.Worked.{worked_table}
 
 no_fault : table_fault worked_table ≡ None
@@ -26,11 +27,11 @@ unfolding table_fault header_fault tables_fault order_fault entry_fault func_fau
 no_line_table = refl
 
 in_range : func_at worked_table 0x400011 ≡ Some 0
-unfolding func_at first_passing u32_at u64_at
+unfolding func_at first_below u32_at u64_at
 in_range = refl
 
 behind_range : func_at worked_table 0x400020 ≡ None
-unfolding func_at first_passing u32_at u64_at
+unfolding func_at first_below u32_at u64_at
 behind_range = refl
 
 name : name_of worked_table 0 ≡ Some (codes "main.Cas")

@@ -1,4 +1,3 @@
-mod BelowLemmas
 mod TextLemmas
 mod PcLemmas
 mod RangeLemmas

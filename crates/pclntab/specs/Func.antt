@@ -1,6 +1,7 @@
 -- What a function table tells of a function and of an address in it.
-use Rattle.std.specs.Prelude.{ℕ, zero, suc, ℤ, pos, negsuc, Bool, List, ◌+◌, ◌-◌, ◌*◌, ◌<◌, ◌≤◌, ◌&&◌, nat_lt, nat_le, length, Option, Some, None, if◌then◌else◌}
+use Rattle.std.specs.Prelude.{ℕ, ℤ, pos, negsuc, Bool, List, ◌+◌, ◌-◌, ◌*◌, ◌<◌, ◌≤◌, ◌&&◌, nat_lt, nat_le, length, Option, Some, None, if◌then◌else◌}
 use Rattle.std.specs.Int.{w32, cast_signed}
+use Rattle.goasm_base.specs.Refusals.{first_below}
 use Rattle.pcvalue.specs.declared.answer.Answer.{Answer}
 use Rattle.pcvalue.specs.declared.answer.Answer.TheVariants.{Absent, Value, Past, Bad}
 use Rattle.pcvalue.specs.Table.{value_in}
@@ -29,18 +30,13 @@ pub record HasPc (bytes : List ℕ) (index pc : ℕ) : Type 0 where
   pub from : entry_of bytes index ≤ pc
   pub before : pc < end_of bytes index
 
-abbrev pub or_else : Option ℕ → Option ℕ → Option ℕ
-or_else (Some found) other = Some found
-or_else None other = other
-
--- the first number below a bound that passes a test
-unfoldable pub first_passing : ℕ → (ℕ → Bool) → Option ℕ
-first_passing zero test = None
-first_passing (suc count) test = or_else (first_passing count test) (if test count then Some count else None)
+-- a function's number, where it has an address
+abbrev pub index_if : List ℕ → ℕ → ℕ → Option ℕ
+index_if bytes pc index = if has_pc bytes pc index then Some index else None
 
 -- the number of the function that has an address
 unfoldable pub func_at : List ℕ → ℕ → Option ℕ
-func_at bytes pc = first_passing (func_count bytes) (has_pc bytes pc)
+func_at bytes pc = first_below (func_count bytes) (index_if bytes pc)
 
 abbrev pub name_of : List ℕ → ℕ → Option (List ℕ)
 name_of bytes index = text_at bytes (name_place bytes index)

@@ -12,33 +12,64 @@ magic = 0xFFFF_FFF1
 abbrev pub header_size : ℕ
 header_size = 72
 
+-- where the fields of the header stand
+abbrev pub zeros_field : ℕ
+zeros_field = 4
+
+abbrev pub quantum_field : ℕ
+quantum_field = 6
+
+abbrev pub pointer_size_field : ℕ
+pointer_size_field = 7
+
+abbrev pub func_count_field : ℕ
+func_count_field = 8
+
+abbrev pub text_start_field : ℕ
+text_start_field = 24
+
+abbrev pub names_start_field : ℕ
+names_start_field = 32
+
+abbrev pub units_start_field : ℕ
+units_start_field = 40
+
+abbrev pub files_start_field : ℕ
+files_start_field = 48
+
+abbrev pub pcs_start_field : ℕ
+pcs_start_field = 56
+
+abbrev pub funcs_start_field : ℕ
+funcs_start_field = 64
+
 abbrev pub quantum : List ℕ → ℕ
-quantum bytes = byte_at bytes 6
+quantum bytes = byte_at bytes quantum_field
 
 abbrev pub pointer_size : List ℕ → ℕ
-pointer_size bytes = byte_at bytes 7
+pointer_size bytes = byte_at bytes pointer_size_field
 
 abbrev pub func_count : List ℕ → ℕ
-func_count bytes = u64_at bytes 8
+func_count bytes = u64_at bytes func_count_field
 
 abbrev pub text_start : List ℕ → ℕ
-text_start bytes = u64_at bytes 24
+text_start bytes = u64_at bytes text_start_field
 
 -- the offsets of the five tables: function names, units' files, file names, pc-value tables and functions
 abbrev pub names_start : List ℕ → ℕ
-names_start bytes = u64_at bytes 32
+names_start bytes = u64_at bytes names_start_field
 
 abbrev pub units_start : List ℕ → ℕ
-units_start bytes = u64_at bytes 40
+units_start bytes = u64_at bytes units_start_field
 
 abbrev pub files_start : List ℕ → ℕ
-files_start bytes = u64_at bytes 48
+files_start bytes = u64_at bytes files_start_field
 
 abbrev pub pcs_start : List ℕ → ℕ
-pcs_start bytes = u64_at bytes 56
+pcs_start bytes = u64_at bytes pcs_start_field
 
 abbrev pub funcs_start : List ℕ → ℕ
-funcs_start bytes = u64_at bytes 64
+funcs_start bytes = u64_at bytes funcs_start_field
 
 -- The table of functions begins with a pair for each function by rising address: its entry, in bytes from the
 -- text's address, and its record, in bytes from the table. The end of the last function stands behind the pairs.
@@ -76,17 +107,22 @@ file_field bytes index = record_place bytes index + 20
 abbrev pub line_field : List ℕ → ℕ → ℕ
 line_field bytes index = record_place bytes index + 24
 
+abbrev pub tables_field : List ℕ → ℕ → ℕ
+tables_field bytes index = record_place bytes index + 28
+
 abbrev pub unit_field : List ℕ → ℕ → ℕ
 unit_field bytes index = record_place bytes index + 32
 
 abbrev pub flags_field : List ℕ → ℕ → ℕ
 flags_field bytes index = record_place bytes index + 41
 
+abbrev pub data_field : List ℕ → ℕ → ℕ
+data_field bytes index = record_place bytes index + 43
+
 -- the first place behind a record and the words that belong to it
 abbrev pub record_end : List ℕ → ℕ → ℕ
 record_end bytes index =
-    record_place bytes index + record_size + 4 * u32_at bytes (record_place bytes index + 28)
-    + 4 * byte_at bytes (record_place bytes index + 43)
+    record_place bytes index + record_size + 4 * u32_at bytes (tables_field bytes index) + 4 * byte_at bytes (data_field bytes index)
 
 abbrev pub name_place : List ℕ → ℕ → ℕ
 name_place bytes index = names_start bytes + u32_at bytes (name_field bytes index)

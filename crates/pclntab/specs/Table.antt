@@ -2,14 +2,14 @@
 use Rattle.std.specs.Prelude.{◌≡◌, ◌⊎◌, ℕ, List, ◌+◌, ◌-◌, ◌^◌, ◌<◌, ◌≤◌, length, drop, IsTrue}
 use Rattle.pcvalue.specs.Table.{IsPcTable}
 use Rattle.pclntab.specs.Words.{byte_at, u32_at}
-use Rattle.pclntab.specs.Places.{magic, header_size, quantum, pointer_size, func_count, text_start, names_start, units_start, files_start, pcs_start, funcs_start, pair_place, entry_offset, record_place, record_size, record_end, depth_field, file_field, line_field, name_place}
+use Rattle.pclntab.specs.Places.{magic, header_size, zeros_field, quantum, pointer_size, func_count, text_start, names_start, units_start, files_start, pcs_start, funcs_start, pair_place, entry_offset, record_place, record_size, record_end, depth_field, file_field, line_field, name_place}
 use Rattle.pclntab.specs.Texts.{ends_at}
 
 -- a header for a 64-bit program whose places count quanta of 1, 2 or 4 bytes, and whose addresses don't pass 2 ^ 64
 pub record IsHeader (bytes : List ℕ) : Type 0 where
   pub magic : u32_at bytes 0 ≡ magic
   pub length : header_size ≤ length bytes
-  pub zeros : (byte_at bytes 4 ≡ 0) × (byte_at bytes 5 ≡ 0)
+  pub zeros : (byte_at bytes zeros_field ≡ 0) × (byte_at bytes (zeros_field + 1) ≡ 0)
   pub quantum : (quantum bytes ≡ 1) ⊎ (quantum bytes ≡ 2) ⊎ (quantum bytes ≡ 4)
   pub pointers : pointer_size bytes ≡ 8
   pub text : text_start bytes ≤ 2 ^ 64 - 2 ^ 32

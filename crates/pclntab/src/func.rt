@@ -9,6 +9,7 @@ ghost use Rattle.pclntab.specs.Func.{HasPc, entry_of, end_of, name_of, args_of, 
 use crate::names::text_from;
 use crate::places;
 use crate::words::u32_at;
+use goasm_base::behind;
 use pcvalue::{Answer, value_at};
 use std::marker::Model;
 
@@ -80,7 +81,7 @@ impl<'a> Func<'a> {
         ensures { result ≡ args_of self.now.bytes self.now.index }
     {
         let bytes = self.bytes;
-        u32_at(bytes, places::record_place(bytes, self.index) + 8).cast_signed()
+        u32_at(bytes, places::args_field(bytes, self.index)).cast_signed()
     }
 
     /// Its flags: 1 where a stack ends in it, 2 where it writes the stack pointer in a way that no table tells, 4
@@ -89,7 +90,7 @@ impl<'a> Func<'a> {
         ensures { result ≡ flags_of self.now.bytes self.now.index }
     {
         let bytes = self.bytes;
-        bytes[places::record_place(bytes, self.index) + 41]
+        bytes[places::flags_field(bytes, self.index)]
     }
 
     /// The stack depth at an address in its range: by how many bytes the stack pointer is below its value at the
@@ -100,7 +101,7 @@ impl<'a> Func<'a> {
         ensures known { result ≢ Answer.Bad }
     {
         let bytes = self.bytes;
-        self.look_up(places::record_place(bytes, self.index) + 16, pc)
+        self.look_up(places::depth_field(bytes, self.index), pc)
     }
 
     /// The line of the source at an address in its range.
@@ -110,7 +111,7 @@ impl<'a> Func<'a> {
         ensures known { result ≢ Answer.Bad }
     {
         let bytes = self.bytes;
-        self.look_up(places::record_place(bytes, self.index) + 24, pc)
+        self.look_up(places::line_field(bytes, self.index), pc)
     }
 
     /// The name of the source file at an address in its range. `None` exactly where the table has no value there,
@@ -120,14 +121,14 @@ impl<'a> Func<'a> {
         ensures { option_map (λ name. name.now) result ≡ file_at self.now.bytes self.now.index pc }
     {
         let bytes = self.bytes;
-        let record = places::record_place(bytes, self.index);
-        let Answer::Value(number) = self.look_up(record + 20, pc) else {
+        let Answer::Value(number) = self.look_up(places::file_field(bytes, self.index), pc) else {
             return None;
         };
         if number < 0 {
             return None;
         }
-        file_name(bytes, number as u64 + u64::from(u32_at(bytes, record + 32)))
+        let unit = u32_at(bytes, places::unit_field(bytes, self.index));
+        file_name(bytes, number as u64 + u64::from(unit))
     }
 
     // What the pc-value table that a field of the record names says of an address.
@@ -142,9 +143,9 @@ impl<'a> Func<'a> {
         let place = pc - self.entry();
         prove!(pc < self.end());
         value_at(
-            &bytes[places::pcs_start(bytes) as usize..],
+            behind(bytes, places::pcs_start(bytes) as usize),
             u32_at(bytes, field),
-            bytes[6],
+            places::quantum(bytes),
             place as u32,
         )
     }

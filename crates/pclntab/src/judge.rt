@@ -4,14 +4,20 @@ ghost use Rattle.memchr.specs.Find.{IsLastByte, is_byte};
 ghost use Rattle.pclntab.specs.Places.{func_count, entry_offset, record_place, record_size, quantum, name_place};
 ghost use Rattle.pclntab.specs.Texts.{ends_at};
 ghost use Rattle.pclntab.specs.Table.{IsHeader, HasTables, HasOrder, HasRecord, HasName, IsFunc, IsTable, pc_bytes, NamesPcTable};
-ghost use Rattle.pclntab.specs.Faults.{Judges, header_fault, tables_fault, entry_fault, order_fault, record_fault, name_fault, pc_fault, func_fault, table_fault, first_below};
+ghost use Rattle.pclntab.specs.Faults.{Judges, header_fault, tables_fault, entry_fault, order_fault, record_fault, name_fault, pc_fault, func_fault, table_fault};
+ghost use Rattle.goasm_base.specs.Refusals.{first_below};
 ghost use Rattle.pclntab.specs.Ready.{IsReady};
 
 use crate::fault::TableNo;
 use crate::names;
 use crate::pc_tables::PcTables;
-use crate::places::{self, HEADER_SIZE, RECORD_SIZE};
+use crate::places::{
+    self, FILES_START_FIELD, FUNCS_START_FIELD, HEADER_SIZE, NAMES_START_FIELD, PCS_START_FIELD,
+    POINTER_SIZE_FIELD, QUANTUM_FIELD, RECORD_SIZE, TEXT_START_FIELD, UNITS_START_FIELD,
+    ZEROS_FIELD,
+};
 use crate::words::u32_at;
+use goasm_base::behind;
 use memchr::memrchr;
 
 const MAGIC: u32 = 0xFFFF_FFF1;
@@ -43,17 +49,17 @@ fn judge_header(bytes: &[u8]) -> Result<(), TableNo>
     if bytes.len() < HEADER_SIZE {
         return Err(TableNo::TB2(bytes.len() as u64));
     }
-    if bytes[4] != 0 || bytes[5] != 0 {
-        return Err(TableNo::TB2(4));
+    if bytes[ZEROS_FIELD] != 0 || bytes[ZEROS_FIELD + 1] != 0 {
+        return Err(TableNo::TB2(ZEROS_FIELD as u64));
     }
-    if bytes[6] != 1 && bytes[6] != 2 && bytes[6] != 4 {
-        return Err(TableNo::TB2(6));
+    if !matches!(places::quantum(bytes), 1 | 2 | 4) {
+        return Err(TableNo::TB2(QUANTUM_FIELD as u64));
     }
-    if bytes[7] != 8 {
-        return Err(TableNo::TB2(7));
+    if places::pointer_size(bytes) != 8 {
+        return Err(TableNo::TB2(POINTER_SIZE_FIELD as u64));
     }
     if places::text_start(bytes) > LAST_TEXT_START {
-        return Err(TableNo::TB2(24));
+        return Err(TableNo::TB2(TEXT_START_FIELD as u64));
     }
     Ok(())
 }
@@ -66,29 +72,29 @@ fn judge_tables(bytes: &[u8]) -> Result<(), TableNo>
 {
     let length = bytes.len() as u64;
     if places::names_start(bytes) > length {
-        return Err(TableNo::TB4(32));
+        return Err(TableNo::TB4(NAMES_START_FIELD as u64));
     }
     if places::units_start(bytes) > length {
-        return Err(TableNo::TB4(40));
+        return Err(TableNo::TB4(UNITS_START_FIELD as u64));
     }
     if places::files_start(bytes) > length {
-        return Err(TableNo::TB4(48));
+        return Err(TableNo::TB4(FILES_START_FIELD as u64));
     }
     if places::pcs_start(bytes) > length {
-        return Err(TableNo::TB4(56));
+        return Err(TableNo::TB4(PCS_START_FIELD as u64));
     }
     let funcs = places::funcs_start(bytes);
     if funcs > length {
-        return Err(TableNo::TB4(64));
+        return Err(TableNo::TB4(FUNCS_START_FIELD as u64));
     }
     let room = length - funcs;
     if room < 4 || (room - 4) / 8 < places::func_count(bytes) {
-        return Err(TableNo::TB4(64));
+        return Err(TableNo::TB4(FUNCS_START_FIELD as u64));
     }
     Ok(())
 }
 
-#[tactic(auto, unfolding(crate::specs::Faults::order_fault), using(crate::proofs::BelowLemmas::below_zero, crate::proofs::BelowLemmas::below_next, crate::proofs::BelowLemmas::below_found))]
+#[tactic(auto, unfolding(crate::specs::Faults::order_fault), using(goasm_base::proofs::RefusalLemmas::below_zero, goasm_base::proofs::RefusalLemmas::below_next, goasm_base::proofs::RefusalLemmas::below_found))]
 fn judge_order(bytes: &[u8]) -> Result<(), TableNo>
     requires { IsReady bytes.now }
     ensures exact { Judges result (order_fault bytes.now) }
@@ -114,7 +120,7 @@ fn judge_entry(bytes: &[u8], index: u32) -> Result<(), TableNo>
     Ok(())
 }
 
-#[tactic(auto, using(crate::proofs::BelowLemmas::below_zero, crate::proofs::BelowLemmas::below_next, crate::proofs::BelowLemmas::below_found))]
+#[tactic(auto, using(goasm_base::proofs::RefusalLemmas::below_zero, goasm_base::proofs::RefusalLemmas::below_next, goasm_base::proofs::RefusalLemmas::below_found))]
 fn judge_funcs(bytes: &[u8]) -> Result<(), TableNo>
     requires { IsReady bytes.now }
     ensures exact { Judges result (first_below (func_count bytes.now) (func_fault bytes.now)) }
@@ -132,7 +138,10 @@ fn pc_tables(bytes: &[u8]) -> PcTables<'_>
     requires { IsReady bytes.now }
     ensures { result ≡ record { bytes = pc_bytes bytes.now; quantum = quantum bytes.now } }
 {
-    PcTables::new(&bytes[places::pcs_start(bytes) as usize..], bytes[6])
+    PcTables::new(
+        behind(bytes, places::pcs_start(bytes) as usize),
+        places::quantum(bytes),
+    )
 }
 
 #[tactic(auto, unfolding(crate::specs::Faults::func_fault))]
@@ -152,10 +161,9 @@ fn judge_func(
 {
     judge_record(bytes, index)?;
     judge_name(bytes, index, last_zero)?;
-    let record = places::record_place(bytes, index);
-    judge_pc_table(bytes, record + 16, tables)?;
-    judge_pc_table(bytes, record + 20, tables)?;
-    judge_pc_table(bytes, record + 24, tables)
+    judge_pc_table(bytes, places::depth_field(bytes, index), tables)?;
+    judge_pc_table(bytes, places::file_field(bytes, index), tables)?;
+    judge_pc_table(bytes, places::line_field(bytes, index), tables)
 }
 
 #[tactic(auto, unfolding(crate::specs::Faults::record_fault))]
@@ -184,7 +192,7 @@ fn judge_name(bytes: &[u8], index: u32, last_zero: Option<usize>) -> Result<(), 
     ensures exact { Judges result (name_fault bytes.now index) }
     ensures form { MatchResult result (λ _. HasName bytes.now index) (λ _. HasName bytes.now index → ⊥) }
 {
-    let field = (places::record_place(bytes, index) + 4) as u64;
+    let field = places::name_field(bytes, index) as u64;
     let name = places::name_place(bytes, index);
     if name > bytes.len() {
         return Err(TableNo::TB4(field));

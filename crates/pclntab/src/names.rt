@@ -1,20 +1,15 @@
-ghost use Rattle.std.specs.Prelude.{◌≡◌, ◌<◌, ◌↔◌, length, drop, position, IsTrue};
+ghost use Rattle.std.specs.Prelude.{◌≡◌, ◌<◌, ◌↔◌, length, position, IsTrue};
 ghost use Rattle.std.specs.Option.{option_map};
 ghost use Rattle.memchr.specs.Find.{IsLastByte, is_byte};
 ghost use Rattle.pclntab.specs.Texts.{is_zero, text_in, text_at, ends_at};
+
+use goasm_base::behind_or_empty;
 
 /// The text at a place, up to its first zero byte. `None` where no zero byte ends it.
 pub fn text_from(bytes: &[u8], at: usize) -> Option<&[u8]>
     ensures { option_map (λ text. text.now) result ≡ text_at bytes.now at }
 {
-    until_zero(behind(bytes, at))
-}
-
-// The bytes from a place on; none where it is past them.
-fn behind(bytes: &[u8], at: usize) -> &[u8]
-    ensures { result.now ≡ drop at bytes.now }
-{
-    if at < bytes.len() { &bytes[at..] } else { &[] }
+    until_zero(behind_or_empty(bytes, at))
 }
 
 #[tactic(auto, unfolding(crate::specs::Texts::text_in))]

@@ -10,53 +10,88 @@ pub const HEADER_SIZE: usize = 72;
 
 pub const RECORD_SIZE: usize = 44;
 
+// Where the fields of the header stand.
+pub const ZEROS_FIELD: usize = 4;
+
+pub const QUANTUM_FIELD: usize = 6;
+
+pub const POINTER_SIZE_FIELD: usize = 7;
+
+pub const FUNC_COUNT_FIELD: usize = 8;
+
+pub const TEXT_START_FIELD: usize = 24;
+
+pub const NAMES_START_FIELD: usize = 32;
+
+pub const UNITS_START_FIELD: usize = 40;
+
+pub const FILES_START_FIELD: usize = 48;
+
+pub const PCS_START_FIELD: usize = 56;
+
+pub const FUNCS_START_FIELD: usize = 64;
+
+pub fn quantum(bytes: &[u8]) -> u8
+    requires { header_size ≤ length bytes.now }
+    ensures { result ≡ spec.quantum bytes.now }
+{
+    bytes[QUANTUM_FIELD]
+}
+
+pub fn pointer_size(bytes: &[u8]) -> u8
+    requires { header_size ≤ length bytes.now }
+    ensures { result ≡ spec.pointer_size bytes.now }
+{
+    bytes[POINTER_SIZE_FIELD]
+}
+
 pub fn func_count(bytes: &[u8]) -> u64
     requires { header_size ≤ length bytes.now }
     ensures { result ≡ spec.func_count bytes.now }
 {
-    u64_at(bytes, 8)
+    u64_at(bytes, FUNC_COUNT_FIELD)
 }
 
 pub fn text_start(bytes: &[u8]) -> u64
     requires { header_size ≤ length bytes.now }
     ensures { result ≡ spec.text_start bytes.now }
 {
-    u64_at(bytes, 24)
+    u64_at(bytes, TEXT_START_FIELD)
 }
 
 pub fn names_start(bytes: &[u8]) -> u64
     requires { header_size ≤ length bytes.now }
     ensures { result ≡ spec.names_start bytes.now }
 {
-    u64_at(bytes, 32)
+    u64_at(bytes, NAMES_START_FIELD)
 }
 
 pub fn units_start(bytes: &[u8]) -> u64
     requires { header_size ≤ length bytes.now }
     ensures { result ≡ spec.units_start bytes.now }
 {
-    u64_at(bytes, 40)
+    u64_at(bytes, UNITS_START_FIELD)
 }
 
 pub fn files_start(bytes: &[u8]) -> u64
     requires { header_size ≤ length bytes.now }
     ensures { result ≡ spec.files_start bytes.now }
 {
-    u64_at(bytes, 48)
+    u64_at(bytes, FILES_START_FIELD)
 }
 
 pub fn pcs_start(bytes: &[u8]) -> u64
     requires { header_size ≤ length bytes.now }
     ensures { result ≡ spec.pcs_start bytes.now }
 {
-    u64_at(bytes, 56)
+    u64_at(bytes, PCS_START_FIELD)
 }
 
 pub fn funcs_start(bytes: &[u8]) -> u64
     requires { header_size ≤ length bytes.now }
     ensures { result ≡ spec.funcs_start bytes.now }
 {
-    u64_at(bytes, 64)
+    u64_at(bytes, FUNCS_START_FIELD)
 }
 
 pub fn pair_place(bytes: &[u8], index: u32) -> usize
@@ -94,6 +129,78 @@ pub fn record_place(bytes: &[u8], index: u32) -> usize
     funcs_start(bytes) as usize + u32_at(bytes, record_field(bytes, index)) as usize
 }
 
+pub fn name_field(bytes: &[u8], index: u32) -> usize
+    requires ready { IsReady bytes.now }
+    requires index { index < spec.func_count bytes.now }
+    ensures { result ≡ spec.name_field bytes.now index }
+{
+    record_place(bytes, index) + 4
+}
+
+pub fn args_field(bytes: &[u8], index: u32) -> usize
+    requires ready { IsReady bytes.now }
+    requires index { index < spec.func_count bytes.now }
+    ensures { result ≡ spec.args_field bytes.now index }
+{
+    record_place(bytes, index) + 8
+}
+
+pub fn depth_field(bytes: &[u8], index: u32) -> usize
+    requires ready { IsReady bytes.now }
+    requires index { index < spec.func_count bytes.now }
+    ensures { result ≡ spec.depth_field bytes.now index }
+{
+    record_place(bytes, index) + 16
+}
+
+pub fn file_field(bytes: &[u8], index: u32) -> usize
+    requires ready { IsReady bytes.now }
+    requires index { index < spec.func_count bytes.now }
+    ensures { result ≡ spec.file_field bytes.now index }
+{
+    record_place(bytes, index) + 20
+}
+
+pub fn line_field(bytes: &[u8], index: u32) -> usize
+    requires ready { IsReady bytes.now }
+    requires index { index < spec.func_count bytes.now }
+    ensures { result ≡ spec.line_field bytes.now index }
+{
+    record_place(bytes, index) + 24
+}
+
+pub fn tables_field(bytes: &[u8], index: u32) -> usize
+    requires ready { IsReady bytes.now }
+    requires index { index < spec.func_count bytes.now }
+    ensures { result ≡ spec.tables_field bytes.now index }
+{
+    record_place(bytes, index) + 28
+}
+
+pub fn unit_field(bytes: &[u8], index: u32) -> usize
+    requires ready { IsReady bytes.now }
+    requires index { index < spec.func_count bytes.now }
+    ensures { result ≡ spec.unit_field bytes.now index }
+{
+    record_place(bytes, index) + 32
+}
+
+pub fn flags_field(bytes: &[u8], index: u32) -> usize
+    requires ready { IsReady bytes.now }
+    requires index { index < spec.func_count bytes.now }
+    ensures { result ≡ spec.flags_field bytes.now index }
+{
+    record_place(bytes, index) + 41
+}
+
+pub fn data_field(bytes: &[u8], index: u32) -> usize
+    requires ready { IsReady bytes.now }
+    requires index { index < spec.func_count bytes.now }
+    ensures { result ≡ spec.data_field bytes.now index }
+{
+    record_place(bytes, index) + 43
+}
+
 /// The first place behind a record and the words that belong to it.
 pub fn record_end(bytes: &[u8], index: u32) -> usize
     requires ready { IsReady bytes.now }
@@ -101,10 +208,9 @@ pub fn record_end(bytes: &[u8], index: u32) -> usize
     requires fits { spec.record_place bytes.now index + record_size ≤ length bytes.now }
     ensures { result ≡ spec.record_end bytes.now index }
 {
-    let record = record_place(bytes, index);
-    let tables = u32_at(bytes, record + 28) as usize;
-    let data = usize::from(bytes[record + 43]);
-    record + RECORD_SIZE + 4 * tables + 4 * data
+    let tables = u32_at(bytes, tables_field(bytes, index)) as usize;
+    let data = usize::from(bytes[data_field(bytes, index)]);
+    record_place(bytes, index) + RECORD_SIZE + 4 * tables + 4 * data
 }
 
 pub fn name_place(bytes: &[u8], index: u32) -> usize
@@ -113,5 +219,5 @@ pub fn name_place(bytes: &[u8], index: u32) -> usize
     requires fits { spec.record_place bytes.now index + record_size ≤ length bytes.now }
     ensures { result ≡ spec.name_place bytes.now index }
 {
-    names_start(bytes) as usize + u32_at(bytes, record_place(bytes, index) + 4) as usize
+    names_start(bytes) as usize + u32_at(bytes, name_field(bytes, index)) as usize
 }

@@ -72,7 +72,7 @@ impl<'a> Table<'a> {
         self.scan(pc)
     }
 
-    #[tactic(auto, unfolding(crate::specs::Func::func_at), using(crate::proofs::BelowLemmas::passing_zero, crate::proofs::BelowLemmas::passing_next, crate::proofs::BelowLemmas::passing_found))]
+    #[tactic(auto, unfolding(crate::specs::Func::func_at), using(goasm_base::proofs::RefusalLemmas::below_zero, goasm_base::proofs::RefusalLemmas::below_next, crate::proofs::RangeLemmas::index_found))]
     fn scan(&self, pc: u64) -> Option<Func<'a>>
         ensures exact { result ≡ option_map (λ index. record { bytes = self.now; index = index }) (func_at self.now pc) }
         ensures some { IfSome result (λ func. (func.index < func_count self.now) × HasPc self.now func.index pc) }

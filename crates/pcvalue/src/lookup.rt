@@ -1,10 +1,11 @@
-ghost use Rattle.std.specs.Prelude.{◌≡◌, ◌≢◌, ℤ, ◌-◌, ◌<◌, ◌↔◌, length, drop, IsTrue};
+ghost use Rattle.std.specs.Prelude.{◌≡◌, ◌≢◌, ℤ, ◌-◌, ◌<◌, ◌↔◌, length, IsTrue};
 ghost use Rattle.pcvalue.specs.Runs.{runs_of};
 ghost use Rattle.pcvalue.specs.Table.{runs_at, value_in, IsPcTable, HasValue, answer_of};
 
 use crate::answer::Answer;
 use crate::run::Run;
 use crate::step::{Cursor, Step, next_run};
+use goasm_base::behind_or_empty;
 
 /// What the pc-value table at an offset of the bytes says of a place.
 ///
@@ -38,18 +39,7 @@ fn look_up(table: &[u8], offset: u32, quantum: u8, place: u32) -> Answer
     if offset == 0 {
         Answer::Absent
     } else {
-        value_from(behind(table, offset), quantum, place)
-    }
-}
-
-// The bytes from an offset on; none where it is past them.
-fn behind(bytes: &[u8], offset: u32) -> &[u8]
-    ensures { result.now ≡ drop offset bytes.now }
-{
-    if (offset as usize) < bytes.len() {
-        &bytes[offset as usize..]
-    } else {
-        &[]
+        value_from(behind_or_empty(table, offset as usize), quantum, place)
     }
 }
 

@@ -1,5 +1,5 @@
-use Rattle.asm_macro.proofs.FormFiles.{expansion_good}
 use Rattle.asm_macro.proofs.OutcomeLemmas.{ok_then, err_then, outcome_done, outcome_refused}
+use Rattle.asm_macro.proofs.PlaceLemmas.{formed_results, placed_results, results_of, refusal_of}
 use Rattle.asm_macro.proofs.builds.expand.Goals as goal
 
 pub returns-clause-expanded : goal.returns-clause-expanded
@@ -12,6 +12,20 @@ returns-clause-refused c =
 
 pub returns-clause-form : goal.returns-clause-form
 returns-clause-form c =
-    ok_then _ _ c.expand_within.result
-    (λ all is. expansion_good _ c.args.sources.now c.args.includes.now c.args.defines.now all.items c.requires.sources c.requires.includes c.requires.defines is)
-    c.expand_within.ensures.ok
+    let good = formed_results _ c.args.sources.now c.args.includes.now c.args.defines.now c.requires.sources c.requires.includes c.requires.defines in
+    ok_then _ _ c.expand_within.result (λ all is. (results_of _ _ _ all.items good is).forms) c.expand_within.ensures.ok
+
+pub returns-clause-few : goal.returns-clause-few
+returns-clause-few c =
+    let good = formed_results _ c.args.sources.now c.args.includes.now c.args.defines.now c.requires.sources c.requires.includes c.requires.defines in
+    ok_then _ _ c.expand_within.result (λ all is. (results_of _ _ _ all.items good is).count) c.expand_within.ensures.ok
+
+pub returns-clause-places : goal.returns-clause-places
+returns-clause-places c = λ placed.
+    let good = placed_results _ c.args.sources.now c.args.includes.now c.args.defines.now c.requires.sources c.requires.includes c.requires.defines placed in
+    ok_then _ _ c.expand_within.result (λ all is. (results_of _ _ _ all.items good is).places) c.expand_within.ensures.ok
+
+pub returns-clause-place : goal.returns-clause-place
+returns-clause-place c = λ placed.
+    let good = placed_results _ c.args.sources.now c.args.includes.now c.args.defines.now c.requires.sources c.requires.includes c.requires.defines placed in
+    err_then _ _ c.expand_within.result (λ no is. refusal_of _ _ _ no good is) c.expand_within.ensures.err

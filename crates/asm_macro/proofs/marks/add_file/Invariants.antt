@@ -1,8 +1,10 @@
 use Rattle.std.proofs.Common.{◌≡◌, ◌++◌, map, drop}
-use Rattle.asm_macro.specs.LineNames.{names_in}
+use Rattle.std.specs.List.{flat_map}
+use Rattle.asm_macro.specs.LineNames.{names_by}
 use Rattle.asm_macro.specs.Views.{statement_of}
 use Rattle.asm_macro.proofs.marks.add_file.Given as goal
 
-abbrev pub invariant-loop-piece : goal.invariant-loop-piece
-invariant-loop-piece l =
-    l.names.items ++ names_in (map statement_of (drop l.piece-index l.piece-items)) ≡ l.initial.names.items ++ names_in (map statement_of l.piece-items)
+abbrev pub invariant-loop-statement : goal.invariant-loop-statement
+invariant-loop-statement l =
+    l.names.items ++ flat_map names_by (map statement_of (drop l.statement-index l.statement-items))
+    ≡ l.initial.names.items ++ flat_map names_by (map statement_of l.statement-items)

@@ -1,7 +1,8 @@
 use Rattle.std.proofs.Common.{◌≡◌, ℕ, ◌<◌, None}
 use Rattle.pclntab.specs.Places.{quantum}
 use Rattle.pclntab.specs.Table.{IsFunc, pc_bytes}
-use Rattle.pclntab.specs.Faults.{first_below, func_fault}
+use Rattle.goasm_base.specs.Refusals.{first_below}
+use Rattle.pclntab.specs.Faults.{func_fault}
 use Rattle.pclntab.proofs.judge.judge_funcs.Given as goal
 
 abbrev pub invariant-loop-index : goal.invariant-loop-index

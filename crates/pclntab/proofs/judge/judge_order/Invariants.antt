@@ -1,6 +1,7 @@
 use Rattle.std.proofs.Common.{◌≡◌, ℕ, ◌+◌, ◌<◌, ◌≤◌, None}
 use Rattle.pclntab.specs.Places.{entry_offset}
-use Rattle.pclntab.specs.Faults.{first_below, entry_fault}
+use Rattle.goasm_base.specs.Refusals.{first_below}
+use Rattle.pclntab.specs.Faults.{entry_fault}
 use Rattle.pclntab.proofs.judge.judge_order.Given as goal
 
 abbrev pub invariant-loop-index : goal.invariant-loop-index

@@ -3,5 +3,5 @@ use Rattle.asm_macro.proofs.marks.Collector.with.Goals as goal
 
 pub invariant_of-result : goal.invariant_of-result
 invariant_of-result c =
-    rw (c.in_ok-push.ensures.items, c.new.ensures, c.in_ok-from_slice.ensures.items)
-    (keeps_more c.self.inside.names.items c.args.name c.self.inside.seen c.insert.new.self c.in_ok-insert.ensures.updates c.self.invariant)
+    rw (c.in_ok-push.ensures.items, c.in_ok-from_slice.ensures)
+    (keeps_more c.self.inside.names.items c.args.name.now c.self.inside.seen c.insert.new.self c.in_ok-insert.ensures.adds c.self.invariant)

@@ -1,4 +1,3 @@
-use Rattle.std.proofs.Common.{refl}
 use Rattle.goasm_list.specs.Lists.{line_of}
 use Rattle.goasm_list.specs.Views.{parts_in}
 use Rattle.goasm_list.proofs.KeepLemmas.{Stands, keeps_file, keeps_define, keeps_outside, keeps_entry}
@@ -17,6 +16,6 @@ invariant_of-result c =
       | in-Define w ↦ rw (w.outside-is, w.files-is, w.entry-is) (keeps_define _ _ _ _ _ w.in-Define.is c.self.invariant stands)
       | in-Outside+in_ok-insert-in-Outside w ↦
           rw (w.outside-is, w.files-is, w.entry-is)
-          (keeps_outside _ _ c.args.draft.now.name _ _ _ _ w.in-Outside.is refl w.in_ok-insert-in-Outside.ensures.updates c.self.invariant stands)
+          (keeps_outside _ _ _ _ _ _ w.in-Outside.is w.in_ok-insert-in-Outside.ensures.adds c.self.invariant stands)
       | in-Entry w ↦ rw (w.outside-is, w.files-is, w.entry-is) (keeps_entry _ _ _ _ _ w.in-Entry.is c.self.invariant stands)
     ])

@@ -1,26 +1,36 @@
 ghost use Rattle.std.specs.Prelude.{◌≡◌};
+ghost use Rattle.goasm_text.specs.Lines.{HasCause, HasName};
 
-use super::*;
 use asm_lex::LexNo;
 use asm_macro::MacroNo;
-use goasm_base::{Name, Pos};
+use goasm_base::{Memory, Name, Pos, Text};
+use goasm_text::{Refusal, line_of, push_place};
 use pclntab::TableNo;
-use std::alloc::{AllocError, Global};
+use std::alloc::Global;
 use std::process::Abort;
 use std::test::Fail;
 
-fn names(alloc: Global, list: &[&[u8]]) -> Result<Vec<Name>, AllocError> {
-    let mut names = Vec::new(alloc);
-    for name in list {
-        names.push(Name::new(Vec::from_slice(alloc, name)?))?;
-    }
-    Ok(names)
+// The names of a file, another one, and one that a `#line` directive gives.
+fn three_names(alloc: Global) -> Result<[Name; 3], Memory> {
+    Ok([
+        Name::from_slice(alloc, b"cas.tab")?,
+        Name::from_slice(alloc, b"m.s")?,
+        Name::from_slice(alloc, b"y.s")?,
+    ])
 }
 
-// Tests the line of a refusal, over a file, another one, and the name that a `#line` directive gives.
-fn expect<R: Abort>(rt: &R, alloc: Global, refusal: &Refusal, want: &[u8]) -> Result<(), Fail> {
-    let files = names(alloc, &[b"cas.tab", b"m.s", b"y.s"])?;
-    assert_eq!(rt; line_of(alloc, refusal, &files)?.as_slice(), want);
+// Tests the line of a refusal over these files.
+fn expect<R: Abort>(
+    rt: &R,
+    alloc: Global,
+    files: &[Name],
+    refusal: &Refusal,
+    want: &[u8],
+) -> Result<(), Fail>
+    requires cause { HasCause refusal.now }
+    requires files { HasName files.now refusal.now }
+{
+    assert_eq!(rt; line_of(alloc, refusal, files)?.as_slice(), want);
     Ok(())
 }
 
@@ -33,27 +43,32 @@ fn at(file: u32, line: u32) -> Pos
 #[test]
 fn a_source_is_told_by_its_line(rt: HostRuntime) -> Result<(), Fail> {
     let alloc = rt.alloc();
+    let files = three_names(alloc)?;
     expect(
         &rt,
         alloc,
+        &files,
         &Refusal::Lex(LexNo::L1(at(1, 1))),
         b"m.s:1: L1\n",
     )?;
     expect(
         &rt,
         alloc,
+        &files,
         &Refusal::Lex(LexNo::L2(at(1, 12))),
         b"m.s:12: L2\n",
     )?;
     expect(
         &rt,
         alloc,
+        &files,
         &Refusal::Lex(LexNo::L3(at(0, 3))),
         b"cas.tab:3: L3\n",
     )?;
     expect(
         &rt,
         alloc,
+        &files,
         &Refusal::Lex(LexNo::L4(at(2, u32::MAX))),
         b"y.s:4294967295: L4\n",
     )
@@ -62,53 +77,62 @@ fn a_source_is_told_by_its_line(rt: HostRuntime) -> Result<(), Fail> {
 #[test]
 fn an_expansion_is_told_by_its_line(rt: HostRuntime) -> Result<(), Fail> {
     let alloc = rt.alloc();
+    let files = three_names(alloc)?;
     expect(
         &rt,
         alloc,
+        &files,
         &Refusal::Macro(MacroNo::M1(at(1, 1))),
         b"m.s:1: M1\n",
     )?;
     expect(
         &rt,
         alloc,
+        &files,
         &Refusal::Macro(MacroNo::M2(at(1, 20))),
         b"m.s:20: M2\n",
     )?;
     expect(
         &rt,
         alloc,
+        &files,
         &Refusal::Macro(MacroNo::M3(at(0, 4))),
         b"cas.tab:4: M3\n",
     )?;
     expect(
         &rt,
         alloc,
+        &files,
         &Refusal::Macro(MacroNo::M4(at(1, 3))),
         b"m.s:3: M4\n",
     )?;
     expect(
         &rt,
         alloc,
+        &files,
         &Refusal::Macro(MacroNo::M5(at(2, 7))),
         b"y.s:7: M5\n",
     )?;
     expect(
         &rt,
         alloc,
+        &files,
         &Refusal::Macro(MacroNo::M6(at(1, 300))),
         b"m.s:300: M6\n",
     )?;
     expect(
         &rt,
         alloc,
+        &files,
         &Refusal::Macro(MacroNo::M7(at(1, 9))),
         b"m.s:9: M7\n",
-    )?;
-    Ok(())
+    )
 }
 
 #[test]
 fn a_table_is_told_by_an_offset(rt: HostRuntime) -> Result<(), Fail> {
+    let alloc = rt.alloc();
+    let files = three_names(alloc)?;
     for (fault, want) in [
         (TableNo::TB1(0), b"cas.tab: TB1 at 0\n".as_slice()),
         (TableNo::TB2(71), b"cas.tab: TB2 at 71\n"),
@@ -120,7 +144,17 @@ fn a_table_is_told_by_an_offset(rt: HostRuntime) -> Result<(), Fail> {
             b"cas.tab: TB6 at 18446744073709551615\n",
         ),
     ] {
-        expect(&rt, rt.alloc(), &Refusal::Table(fault), want)?;
+        expect(&rt, alloc, &files, &Refusal::Table(fault), want)?;
     }
+    Ok(())
+}
+
+#[test]
+fn a_place_is_a_name_and_a_line(rt: HostRuntime) -> Result<(), Fail> {
+    let alloc = rt.alloc();
+    let files = three_names(alloc)?;
+    let mut text = Text::new(alloc);
+    push_place(&mut text, &files, at(1, 12))?;
+    assert_eq!(rt; text.finish().as_slice(), b"m.s:12".as_slice());
     Ok(())
 }

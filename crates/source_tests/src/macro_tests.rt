@@ -1,10 +1,14 @@
-use crate::builds::{LIMITS, expand_within, greatest_of};
-use crate::limits::Limits;
-use crate::{MacroNo, expand, line_names};
 use asm_lex::{Token, Tokens, lex};
+use asm_macro::{Limits, MacroNo, expand, expand_within, greatest_of, line_names};
 use goasm_base::{Memory, Name, Pos, Text};
 use std::alloc::Global;
 use std::test::Fail;
+
+const LARGE: Limits = Limits {
+    tokens: 4_000_000,
+    uses: 4_000_000,
+    nesting: 100,
+};
 
 const SMALL: Limits = Limits {
     tokens: 6,
@@ -25,7 +29,7 @@ const DEFINES: [(&str, &str); 2] = [("D", "4 2"), ("E", "")];
 
 // A source and its tokens: before each that stands elsewhere than the one before it its file and line, and `NL` for a
 // newline; or the refusal with its place.
-const SOURCES: [(&str, &str); 83] = [
+const SOURCES: [(&str, &str); 84] = [
     ("", "1:1 NL"),
     ("RET;\n\n", "1:1 RET ; NL 1:2 NL 1:3 NL"),
     (
@@ -72,6 +76,10 @@ const SOURCES: [(&str, &str); 83] = [
     ),
     ("#line 7 \"y.s\"\nRET\nA", "7:7 RET NL 7:8 A NL"),
     ("#line 5000000000 \"y\"\nA\nB", "7:2147483646 A NL B NL"),
+    (
+        "#line 1 \"a\"\nX\n#line 1 \"b\"\nY\n#line 1 \"c\"\nZ",
+        "7:1 X NL 8:1 Y NL 9:1 Z NL",
+    ),
     ("#line 3 \"y\"\n#line 4 \"x\"\n#foo", "M5 8:4"),
     ("#ifdef A\n1\n#else\n2\n#endif\n3", "1:4 2 NL 1:6 3 NL"),
     ("#ifndef A\n1\n#else\n2\n#endif", "1:2 1 NL"),
@@ -149,7 +157,7 @@ const LIMITED: [(&str, &str); 12] = [
 ];
 
 fn named_tokens(alloc: Global, file: u32, name: &str, text: &str) -> Result<(Name, Tokens), Fail> {
-    let name = Name::new(Vec::from_slice(alloc, name.as_bytes())?);
+    let name = Name::from_slice(alloc, name.as_bytes())?;
     Ok((name, lex(alloc, file, text.as_bytes())?))
 }
 
@@ -246,7 +254,7 @@ fn shown(
 fn sources(rt: HostRuntime) -> Result<(), Fail> {
     let alloc = rt.alloc();
     for (source, expected) in SOURCES {
-        let text = shown(alloc, LIMITS, source, &includes(alloc)?, &defines(alloc)?)?;
+        let text = shown(alloc, LARGE, source, &includes(alloc)?, &defines(alloc)?)?;
         assert_eq!(rt; text.finish().as_slice(), expected.as_bytes(), "{source}");
     }
     Ok(())
@@ -298,7 +306,7 @@ fn many_defines(rt: HostRuntime) -> Result<(), Fail> {
     if names.len() > 100 || greatest_of(&[], &[], &defines) > 100 {
         return Err("too many files".into());
     }
-    let refused = expand_within(alloc, LIMITS, &[], &[], &defines).err();
+    let refused = expand_within(alloc, LARGE, &[], &[], &defines).err();
     assert_eq!(rt; refused, Some(MacroNo::M6(Pos { file: 0, line: 2 })));
     Ok(())
 }
