@@ -29,7 +29,7 @@ const DEFINES: [(&str, &str); 2] = [("D", "4 2"), ("E", "")];
 
 // A source and its tokens: before each that stands elsewhere than the one before it its file and line, and `NL` for a
 // newline; or the refusal with its place.
-const SOURCES: [(&str, &str); 84] = [
+const SOURCES: [(&str, &str); 40] = [
     ("", "1:1 NL"),
     ("RET;\n\n", "1:1 RET ; NL 1:2 NL 1:3 NL"),
     (
@@ -80,7 +80,6 @@ const SOURCES: [(&str, &str); 84] = [
         "#line 1 \"a\"\nX\n#line 1 \"b\"\nY\n#line 1 \"c\"\nZ",
         "7:1 X NL 8:1 Y NL 9:1 Z NL",
     ),
-    ("#line 3 \"y\"\n#line 4 \"x\"\n#foo", "M5 8:4"),
     ("#ifdef A\n1\n#else\n2\n#endif\n3", "1:4 2 NL 1:6 3 NL"),
     ("#ifndef A\n1\n#else\n2\n#endif", "1:2 1 NL"),
     ("#ifdef D\n1\n#endif", "1:2 1 NL"),
@@ -89,6 +88,14 @@ const SOURCES: [(&str, &str); 84] = [
         "1:8 RET NL",
     ),
     ("#ifdef A\n#line 9 \"q\"\n#endif\nB", "1:4 B NL"),
+    ("F(x", "1:1 F ( x NL"),
+    ("#define F(a) G a\n#define G(a) a\nF((1))", "1:3 1 NL"),
+    ("#define F(a) a\nF(D)", "1:2 4 2 NL"),
+];
+
+// Sources that are refused.
+const REFUSED: [(&str, &str); 44] = [
+    ("#line 3 \"y\"\n#line 4 \"x\"\n#foo", "M5 8:4"),
     ("#include \"x.h\"", "M1 1:1"),
     ("\n\n#include \"A.h\"", "M1 1:3"),
     ("#define F(a) a\nF(1,2)", "M2 1:2"),
@@ -132,9 +139,6 @@ const SOURCES: [(&str, &str); 84] = [
     ("#define RODATA 1\n\n#include \"textflag.h\"", "M6 1:3"),
     ("#include \"textflag.h\"\n#define RODATA 8", "M6 1:2"),
     ("#include \"a.h\"\n#include \"a.h\"", "M6 2:1"),
-    ("F(x", "1:1 F ( x NL"),
-    ("#define F(a) G a\n#define G(a) a\nF((1))", "1:3 1 NL"),
-    ("#define F(a) a\nF(D)", "1:2 4 2 NL"),
 ];
 
 // The same under small limits: 6 tokens, 4 uses, 2 levels.
@@ -254,6 +258,16 @@ fn shown(
 fn sources(rt: HostRuntime) -> Result<(), Fail> {
     let alloc = rt.alloc();
     for (source, expected) in SOURCES {
+        let text = shown(alloc, LARGE, source, &includes(alloc)?, &defines(alloc)?)?;
+        assert_eq!(rt; text.finish().as_slice(), expected.as_bytes(), "{source}");
+    }
+    Ok(())
+}
+
+#[test]
+fn refusals(rt: HostRuntime) -> Result<(), Fail> {
+    let alloc = rt.alloc();
+    for (source, expected) in REFUSED {
         let text = shown(alloc, LARGE, source, &includes(alloc)?, &defines(alloc)?)?;
         assert_eq!(rt; text.finish().as_slice(), expected.as_bytes(), "{source}");
     }
