@@ -1,2 +1,3 @@
 mod DiskLemmas
 mod StreamLemmas
+mod WordLemmas

@@ -3,19 +3,22 @@
 
 mod disk;
 mod stream;
+#[cfg(test)]
+mod tests;
 mod words;
 
 use disk::Disk;
 use goasm_run::goasm_main;
 use std::process::ExitCode;
 use stream::Stream;
+use words::Called;
 
 /// The status where there is no memory for the words.
 const NO_MEMORY: u8 = 3;
 
 fn main(rt: HostRuntime) -> ExitCode {
     let alloc = rt.alloc();
-    let Ok(words) = words::words(&rt, alloc) else {
+    let Ok(words) = words::words(&Called::new(&rt), alloc) else {
         return ExitCode::from(NO_MEMORY);
     };
     let mut shelf = Disk::new(&rt);

@@ -4,3 +4,6 @@ mod StatusLemmas
 mod Examples
 mod PartLemmas
 mod SourceLemmas
+mod StatementLemmas
+mod NumberLemmas
+mod FileLemmas

@@ -10,7 +10,7 @@ use Rattle.goasm_run.specs.declared.stop.Stop.TheVariants as stops
 use Rattle.goasm_run.specs.Changes.{ShelfChange, shelf_change, ReadsAll}
 use Rattle.goasm_run.specs.Plan.{Plan}
 use Rattle.goasm_run.specs.Parts.{ask_parts}
-use Rattle.goasm_run.specs.PartsRead.{LeadsTo, LineStopped, PartsStopped}
+use Rattle.goasm_run.specs.PartsRead.{LeadsTo, NumbersUpTo, LineStopped, PartsStopped}
 
 -- the files of the lines before the rest are read
 pub record ReadUpTo (shelf : ShelfChange) (now : Option Files) (all rest : List ListLine) (number : ℕ) (parts : List Part) : Type 0 where
@@ -18,6 +18,7 @@ pub record ReadUpTo (shelf : ShelfChange) (now : Option Files) (all rest : List 
   pub room : number + file_count rest ≤ 1001
   pub same : now ≡ shelf.holds
   pub unfailed : ReadsAll shelf
+  pub numbered : NumbersUpTo number parts
 
 pub line_at : (lines : List ListLine) (index : ℕ) (line : ListLine)
     → index < length lines → line ≡ get_or lines index line → drop index lines ≡ line ∷ drop (suc index) lines
@@ -36,6 +37,7 @@ parts_stopped holds faults reads old mid new all left rest line number parts sto
       | inl same ↦ rw same (reached.leads next).made
       | inr some ↦ inr ((reached.leads next).makes (reads new) (rw (is, ← reached.same) some))
     ]
-parts_stopped holds faults reads old mid new all left rest line number parts (stops.Unread name) reached is stopped =
-    (λ next. (reached.leads next).asks (reads new) name (rw (is, ← reached.same) (stopped.0 rest next)),
-    rw (← reached.unfailed name) stopped.1)
+parts_stopped holds faults reads old mid new all left rest line number parts (stops.Unread name) reached is stopped = (
+  λ next. (reached.leads next).asks (reads new) name (rw (is, ← reached.same) (stopped.0 rest next)),
+  rw (← reached.unfailed name) stopped.1,
+)

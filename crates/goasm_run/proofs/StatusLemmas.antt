@@ -53,7 +53,7 @@ pub words_stopped : (shelf : ShelfChange) (plan : Plan) (stop : Stop)
 words_stopped shelf plan stop answers =
     elim (is_malformed plan) [
       | inl is ↦
-        malformed_stopped shelf plan stop is (same_stop stop stops.Words (Err stop) refl (answers.words is).0) (answers.words is).1
+          malformed_stopped shelf plan stop is (same_stop stop stops.Words (Err stop) refl (answers.words is).0) (answers.words is).1
       | inr formed ↦ formed_stopped shelf plan stop formed (answers.answers formed).stopped
     ]
 

@@ -1,5 +1,6 @@
 -- `expand LIST`: every statement of the sources after macros, inclusions and conditions.
-use Rattle.std.specs.Prelude.{ℕ, Bool, true, false, List, [], ◌∷◌, ◌++◌, codes, not, Result, Ok, Err, if◌then◌else◌}
+use Rattle.std.specs.Prelude.{ℕ, Bool, true, false, List, [], ◌∷◌, ◌++◌, codes, map, Result, Ok, Err, if◌then◌else◌}
+use Rattle.std.specs.List.{concat}
 use Rattle.asm_lex.specs.declared.token.Kind.{Kind}
 use Rattle.asm_lex.specs.declared.token.Kind.TheVariants.{Word, Number, Text, Sign, End}
 use Rattle.asm_lex.specs.declared.token.Token.{Token}
@@ -21,21 +22,36 @@ is_end Text = false
 is_end Sign = false
 is_end End = true
 
--- what a token gives, where a statement has begun or not: the end of its line, or behind the statement's place, which is that of its
--- first token, a space and the token
-abbrev pub token_text : List (List ℕ) → Bool → Token → List ℕ
-token_text files begun token =
-    if is_end token.kind then (if begun then newline else [])
-    else (if begun then [] else place_text files token.pos) ++ codes " " ++ token.text
+-- the tokens up to the first end of a statement
+unfoldable pub first_statement : List Token → List Token
+first_statement [] = []
+first_statement (token ∷ tokens) = if is_end token.kind then [] else token ∷ first_statement tokens
 
--- a line for each statement that has a token besides its end
-unfoldable pub statements : List (List ℕ) → Bool → List Token → List ℕ
-statements files begun [] = []
-statements files begun (token ∷ tokens) = token_text files begun token ++ statements files (not (is_end token.kind)) tokens
+-- what stands behind the first end, cut at each further one
+unfoldable pub later_statements : List Token → List (List Token)
+later_statements [] = []
+later_statements (token ∷ tokens) =
+    if is_end token.kind then first_statement tokens ∷ later_statements tokens else later_statements tokens
+
+-- tokens are cut into statements at their ends
+abbrev pub statements_of : List Token → List (List Token)
+statements_of tokens = first_statement tokens ∷ later_statements tokens
+
+-- each token behind a space
+unfoldable pub tokens_text : List Token → List ℕ
+tokens_text tokens = concat (map (λ token. codes " " ++ token.text) tokens)
+
+-- the line of a statement that has a token besides its end: the place of the first one, and the tokens
+abbrev pub statement_text : List (List ℕ) → List Token → List ℕ
+statement_text files [] = []
+statement_text files (token ∷ tokens) = place_text files token.pos ++ tokens_text (token ∷ tokens) ++ newline
+
+-- the lines of all statements of these tokens
+unfoldable pub list_text : List (List ℕ) → List Token → List ℕ
+list_text files tokens = concat (map (statement_text files) (statements_of tokens))
 
 unfoldable pub expanded_text : List (List ℕ) → List Tokens → List ℕ
-expanded_text files [] = []
-expanded_text files (tokens ∷ all) = statements files false tokens.list ++ expanded_text files all
+expanded_text files all = concat (map (λ tokens. list_text files tokens.list) all)
 
 abbrev pub over_outcome : List (List ℕ) → Outcome → Plan
 over_outcome files (Done all) = Tell (expanded_text files all)
@@ -50,7 +66,7 @@ over_sources names (Ok found) =
 
 -- over the parts of the build
 unfoldable pub expand_answer : List ℕ → List Part → Plan
-expand_answer list parts = over_sources (file_names (list ∷ []) parts) (lexed (file_names (list ∷ []) parts) parts)
+expand_answer list parts = over_sources (file_names list parts) (lexed (file_names list parts) parts)
 
 -- over the lines of the list
 abbrev pub expand_lines : List ℕ → List ListLine → Plan

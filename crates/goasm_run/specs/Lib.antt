@@ -16,3 +16,5 @@ pub mod Statuses
 -- What only proofs need: the clauses of functions that `goasm_main` calls.
 pub mod Stops
 pub mod PartsRead
+pub mod SourcesLexed
+pub mod TokensWritten

@@ -1,6 +1,7 @@
 -- The tokens of the parts of a build, or the first refusal in their order.
-use Rattle.std.specs.Prelude.{◌≡◌, ℕ, List, [], ◌∷◌, ◌++◌, nat_lt, length, map, All, Option, Some, None, Result, Ok, Err, if◌then◌else◌}
-use Rattle.std.specs.Option.{option_map}
+use Rattle.std.specs.Prelude.{◌≡◌, ℕ, List, [], ◌∷◌, nat_lt, length, map, Option, Some, None, Result, Ok, Err, if◌then◌else◌}
+use Rattle.std.specs.List.{filter_map}
+use Rattle.std.specs.Option.{option_map, option_or}
 use Rattle.goasm_base.specs.declared.pos.Pos.{Pos}
 use Rattle.asm_lex.specs.declared.token.Token.{Token}
 use Rattle.asm_lex.specs.declared.token.Tokens.{Tokens}
@@ -10,9 +11,6 @@ use Rattle.asm_lex.specs.Cut.{tokens_of}
 use Rattle.asm_lex.specs.Faults.{refusal_of}
 use Rattle.goasm_text.specs.declared.refusal.Refusal.TheVariants.{Lex}
 use Rattle.goasm_text.specs.Lines.{line_of}
-use Rattle.asm_lex.specs.Form.{AreTokens}
-use Rattle.goasm_run.specs.declared.stop.Stop.{Stop}
-use Rattle.goasm_run.specs.declared.stop.Stop.TheVariants as stops
 use Rattle.goasm_run.specs.declared.sources.Sources as sources
 use Rattle.goasm_run.specs.declared.part.Role.{Role}
 use Rattle.goasm_run.specs.declared.part.Role.TheVariants as roles
@@ -26,18 +24,19 @@ pub record Sources : Type 0 where
   pub includes : List (List ℕ × Tokens)
   pub defines : List (List ℕ × Tokens)
 
-abbrev pub no_sources : Sources
-no_sources = record { sources = []; includes = []; defines = [] }
+-- the name of a part that is a file
+abbrev pub file_name : Role → List ℕ → Option (List ℕ)
+file_name roles.Source name = Some name
+file_name roles.Include name = Some name
+file_name roles.Value name = None
+
+-- the names of the parts that are files
+abbrev pub names_of : List Part → List (List ℕ)
+names_of parts = filter_map (λ part. file_name part.role part.name) parts
 
 -- the names of files by their numbers: the list, and those that it names
-abbrev pub file_name : Role → List ℕ → List (List ℕ)
-file_name roles.Source name = name ∷ []
-file_name roles.Include name = name ∷ []
-file_name roles.Value name = []
-
-unfoldable pub file_names : List (List ℕ) → List Part → List (List ℕ)
-file_names names [] = names
-file_names names (part ∷ parts) = file_names (names ++ file_name part.role part.name) parts
+unfoldable pub file_names : List ℕ → List Part → List (List ℕ)
+file_names list parts = list ∷ names_of parts
 
 -- the place of a token of a value is the line on which the value stands
 abbrev pub place_on : ℕ → Pos → Pos
@@ -56,63 +55,67 @@ refusal_on line (L3 pos) = L3 (place_on line pos)
 refusal_on line (L4 pos) = L4 (place_on line pos)
 refusal_on line Memory = Memory
 
--- the tokens of bytes, or the line of their first refusal
-abbrev pub lexed_or : List (List ℕ) → Tokens → Option LexNo → Result Tokens (List ℕ)
-lexed_or names tokens (Some refused) = Err (line_of (Lex refused) names)
-lexed_or names tokens None = Ok tokens
+-- the tokens of a part: a value is lexed as a file of its line alone would be
+abbrev pub tokens_by : Role → ℕ → Tokens → Tokens
+tokens_by roles.Source line tokens = tokens
+tokens_by roles.Include line tokens = tokens
+tokens_by roles.Value line tokens = tokens_on line tokens
 
--- a file is lexed where it isn't too long
-unfoldable pub lexed_file : List (List ℕ) → Part → Result Tokens (List ℕ)
-lexed_file names part =
-    if nat_lt source_limit (length part.bytes) then Err (too_long_line part.name)
-    else lexed_or names (tokens_of part.file part.bytes) (refusal_of part.file part.bytes)
+abbrev pub part_tokens : Part → Tokens
+part_tokens part = tokens_by part.role part.line (tokens_of part.file part.bytes)
 
--- a value is lexed as a file of its line alone would be
-unfoldable pub lexed_value : List (List ℕ) → Part → Result Tokens (List ℕ)
-lexed_value names part =
-    lexed_or names (tokens_on part.line (tokens_of part.file part.bytes))
-    (option_map (refusal_on part.line) (refusal_of part.file part.bytes))
+-- the line of a file's refusal, where it has one: it is too long, or isn't lexed
+unfoldable pub file_refusal : List (List ℕ) → Part → Option (List ℕ)
+file_refusal names part =
+    if nat_lt source_limit (length part.bytes) then Some (too_long_line part.name)
+    else option_map (λ no. line_of (Lex no) names) (refusal_of part.file part.bytes)
 
--- the sources with one part more
-abbrev pub with_source : Sources → Result Tokens (List ℕ) → Result Sources (List ℕ)
-with_source done (Ok tokens) = Ok (record done { sources = done.sources ++ tokens ∷ [] })
-with_source done (Err line) = Err line
+-- the line of a value's refusal
+unfoldable pub value_refusal : List (List ℕ) → Part → Option (List ℕ)
+value_refusal names part =
+    option_map (λ no. line_of (Lex (refusal_on part.line no)) names) (refusal_of part.file part.bytes)
 
-abbrev pub with_include : Sources → List ℕ → Result Tokens (List ℕ) → Result Sources (List ℕ)
-with_include done name (Ok tokens) = Ok (record done { includes = done.includes ++ (name, tokens) ∷ [] })
-with_include done name (Err line) = Err line
+abbrev pub refusal_by : Role → List (List ℕ) → Part → Option (List ℕ)
+refusal_by roles.Source names part = file_refusal names part
+refusal_by roles.Include names part = file_refusal names part
+refusal_by roles.Value names part = value_refusal names part
 
-abbrev pub with_define : Sources → List ℕ → Result Tokens (List ℕ) → Result Sources (List ℕ)
-with_define done name (Ok tokens) = Ok (record done { defines = done.defines ++ (name, tokens) ∷ [] })
-with_define done name (Err line) = Err line
+-- the line of the first refusal of the parts in their order
+unfoldable pub first_refusal : List (List ℕ) → List Part → Option (List ℕ)
+first_refusal names [] = None
+first_refusal names (part ∷ parts) = option_or (refusal_by part.role names part) (first_refusal names parts)
 
-unfoldable pub with_role : List (List ℕ) → Sources → Role → Part → Result Sources (List ℕ)
-with_role names done roles.Source part = with_source done (lexed_file names part)
-with_role names done roles.Include part = with_include done part.name (lexed_file names part)
-with_role names done roles.Value part = with_define done part.name (lexed_value names part)
+-- what a part is a build's source by, an included file, or the value of a macro
+abbrev pub source_by : Role → Tokens → Option Tokens
+source_by roles.Source tokens = Some tokens
+source_by roles.Include tokens = None
+source_by roles.Value tokens = None
 
--- the parts in their order, or the line of the first refusal
-unfoldable pub lexed_from : List (List ℕ) → Result Sources (List ℕ) → List Part → Result Sources (List ℕ)
-lexed_from names done [] = done
-lexed_from names (Err line) (part ∷ parts) = Err line
-lexed_from names (Ok done) (part ∷ parts) = lexed_from names (with_role names done part.role part) parts
+abbrev pub include_by : Role → List ℕ → Tokens → Option (List ℕ × Tokens)
+include_by roles.Source name tokens = None
+include_by roles.Include name tokens = Some (name, tokens)
+include_by roles.Value name tokens = None
 
+abbrev pub define_by : Role → List ℕ → Tokens → Option (List ℕ × Tokens)
+define_by roles.Source name tokens = None
+define_by roles.Include name tokens = None
+define_by roles.Value name tokens = Some (name, tokens)
+
+unfoldable pub sources_of : List Part → Sources
+sources_of parts = record {
+  sources = filter_map (λ part. source_by part.role (part_tokens part)) parts;
+  includes = filter_map (λ part. include_by part.role part.name (part_tokens part)) parts;
+  defines = filter_map (λ part. define_by part.role part.name (part_tokens part)) parts;
+}
+
+abbrev pub over_refusal : Option (List ℕ) → Sources → Result Sources (List ℕ)
+over_refusal (Some line) found = Err line
+over_refusal None found = Ok found
+
+-- the tokens of the parts, or the line of the first refusal
 unfoldable pub lexed : List (List ℕ) → List Part → Result Sources (List ℕ)
-lexed names parts = lexed_from names (Ok no_sources) parts
+lexed names parts = over_refusal (first_refusal names parts) (sources_of parts)
 
 -- how the code's tokens of a build are seen
 abbrev pub seen : sources.Sources → Sources
 seen found = record { sources = found.sources.items; includes = found.includes.items; defines = found.defines.items }
-
--- all tokens have the form that they may be handed on in
-pub record AreFormed (found : Sources) : Type 0 where
-  pub sources : All AreTokens found.sources
-  pub includes : All (λ include. AreTokens include.1) found.includes
-  pub defines : All (λ define. AreTokens define.1) found.defines
-
--- the parts have no tokens for this reason
-abbrev pub LexStopped : {T : Type 0} → Result T (List ℕ) → Stop → Type 0
-LexStopped result (stops.Refused said) = result ≡ Err said
-LexStopped result stops.Words = ⊥
-LexStopped result stops.Memory = Unit {0}
-LexStopped result (stops.Unread name) = ⊥

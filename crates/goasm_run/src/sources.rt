@@ -1,8 +1,9 @@
-ghost use Rattle.std.specs.Prelude.{◌≡◌, ℕ, List, [], ◌∷◌, length, All, IfOk, IfErr, OnOk, Ok};
-ghost use Rattle.asm_lex.specs.Form.{AreTokens};
+ghost use Rattle.std.specs.Prelude.{◌≡◌, ◌+◌, ◌<◌, ◌≤◌, ℕ, None, All, length, IfOk, IfErr, OnOk, Ok};
+ghost use Rattle.asm_lex.specs.Cut.{tokens_of};
 ghost use Rattle.goasm_run.specs.declared.stop.Stop.TheVariants as stops;
 ghost use Rattle.goasm_run.specs.Sources as spec;
-ghost use Rattle.goasm_run.specs.Sources.{seen, AreFormed, LexStopped};
+ghost use Rattle.goasm_run.specs.Sources.{seen, names_of};
+ghost use Rattle.goasm_run.specs.SourcesLexed.{IsLexed, IsFile, IsPart, AreLexed, with_part, PartStopped, LexStopped};
 
 use crate::part::{Part, Role};
 use crate::stop::Stop;
@@ -26,27 +27,28 @@ pub struct Sources {
 /// The names of a build's files, by their numbers: that of the list, and those that it names.
 #[tactic(auto, unfolding(crate::specs::Sources::file_names))]
 pub fn file_names(alloc: Global, list: &[u8], parts: &[Part]) -> Result<Vec<Name>, Stop>
-    ensures names { IfOk result (λ names. names.items ≡ spec.file_names (list.now ∷ []) parts.now) }
+    ensures names { IfOk result (λ names. names.items ≡ spec.file_names list.now parts.now) }
     ensures memory { IfErr result (λ stop. stop ≡ stops.Memory) }
 {
     let mut names = Vec::new(alloc);
-    names.push(Name::new(Vec::from_slice(alloc, list)?))?;
-    let mut rest = parts;
-    while let Some((part, behind)) = rest.split_first() {
+    names.push(Name::from_slice(alloc, list)?)?;
+    for part in parts {
         match part.role {
             Role::Source | Role::Include => names.push(part.name.copy(alloc)?)?,
             Role::Value => {}
         }
-        rest = behind;
     }
     Ok(names)
 }
 
 /// The tokens of all parts, or the first refusal in their order.
-#[tactic(auto, unfolding(crate::specs::Sources::lexed, crate::specs::Sources::lexed_from), using(crate::proofs::SourceLemmas::stopped_at))]
+#[tactic(auto, unfolding(crate::specs::Sources::sources_of))]
 pub fn lexed(alloc: Global, names: &[Name], parts: &[Part]) -> Result<Sources, Stop>
+    requires named { All (λ part. part.file < length names.now) parts.now }
+    requires few { length (names_of parts.now) ≤ 1000 }
     ensures tokens { IfOk result (λ found. spec.lexed names.now parts.now ≡ Ok (seen found)) }
-    ensures formed { IfOk result (λ found. AreFormed (seen found)) }
+    ensures lexed { IfOk result (λ found. AreLexed (length names.now) (seen found)) }
+    ensures few { IfOk result (λ found. length found.sources.items + length found.includes.items ≤ 1000) }
     ensures stopped { IfErr result (LexStopped (spec.lexed names.now parts.now)) }
 {
     let mut done = Sources {
@@ -54,73 +56,50 @@ pub fn lexed(alloc: Global, names: &[Name], parts: &[Part]) -> Result<Sources, S
         includes: Vec::new(alloc),
         defines: Vec::new(alloc),
     };
-    let mut rest = parts;
-    while let Some((part, behind)) = rest.split_first() {
-        match add(alloc, names, &mut done, part) {
-            Ok(()) => rest = behind,
-            Err(stop) => return Err(stop),
-        }
+    for part in parts {
+        add(alloc, names, &mut done, part)?;
     }
     Ok(done)
 }
 
 // Adds the tokens of a part.
-#[tactic(auto, unfolding(crate::specs::Sources::with_role))]
 fn add(alloc: Global, names: &[Name], done: &mut Sources, part: &Part) -> Result<(), Stop>
-    requires { AreFormed (seen done.old) }
-    ensures tokens { OnOk result (spec.with_role names.now (seen done.old) part.now.role part.now ≡ Ok (seen done.new)) }
-    ensures formed { OnOk result (AreFormed (seen done.new)) }
-    ensures stopped { IfErr result (LexStopped (spec.with_role names.now (seen done.old) part.now.role part.now)) }
+    requires named { part.now.file < length names.now }
+    requires lexed { AreLexed (length names.now) (seen done.old) }
+    ensures tokens { OnOk result (seen done.new ≡ with_part (seen done.old) part.now.role part.now.name (spec.part_tokens part.now)) }
+    ensures unrefused { OnOk result (spec.refusal_by part.now.role names.now part.now ≡ None) }
+    ensures lexed { OnOk result (AreLexed (length names.now) (seen done.new)) }
+    ensures stopped { IfErr result (PartStopped (spec.refusal_by part.now.role names.now part.now)) }
+{
+    let tokens = part_tokens(alloc, names, part)?;
+    match part.role {
+        Role::Source => Ok(done.sources.push(tokens)?),
+        Role::Include => Ok(done.includes.push((part.name.copy(alloc)?, tokens))?),
+        Role::Value => Ok(done.defines.push((part.name.copy(alloc)?, tokens))?),
+    }
+}
+
+fn part_tokens(alloc: Global, names: &[Name], part: &Part) -> Result<Tokens, Stop>
+    requires { part.now.file < length names.now }
+    ensures tokens { IfOk result (λ tokens. tokens ≡ spec.part_tokens part.now) }
+    ensures unrefused { OnOk result (spec.refusal_by part.now.role names.now part.now ≡ None) }
+    ensures lexed { IfOk result (IsPart part.now.role (length names.now)) }
+    ensures stopped { IfErr result (PartStopped (spec.refusal_by part.now.role names.now part.now)) }
 {
     match part.role {
-        Role::Source => add_source(alloc, names, done, part),
-        Role::Include => add_include(alloc, names, done, part),
-        Role::Value => add_define(alloc, names, done, part),
-    }
-}
-
-fn add_source(alloc: Global, names: &[Name], done: &mut Sources, part: &Part) -> Result<(), Stop>
-    requires { AreFormed (seen done.old) }
-    ensures tokens { OnOk result (spec.with_source (seen done.old) (spec.lexed_file names.now part.now) ≡ Ok (seen done.new)) }
-    ensures formed { OnOk result (AreFormed (seen done.new)) }
-    ensures stopped { IfErr result (LexStopped (spec.with_source (seen done.old) (spec.lexed_file names.now part.now))) }
-{
-    match lexed_file(alloc, names, part) {
-        Ok(tokens) => Ok(done.sources.push(tokens)?),
-        Err(stop) => Err(stop),
-    }
-}
-
-fn add_include(alloc: Global, names: &[Name], done: &mut Sources, part: &Part) -> Result<(), Stop>
-    requires { AreFormed (seen done.old) }
-    ensures tokens { OnOk result (spec.with_include (seen done.old) part.now.name (spec.lexed_file names.now part.now) ≡ Ok (seen done.new)) }
-    ensures formed { OnOk result (AreFormed (seen done.new)) }
-    ensures stopped { IfErr result (LexStopped (spec.with_include (seen done.old) part.now.name (spec.lexed_file names.now part.now))) }
-{
-    match lexed_file(alloc, names, part) {
-        Ok(tokens) => Ok(done.includes.push((part.name.copy(alloc)?, tokens))?),
-        Err(stop) => Err(stop),
-    }
-}
-
-fn add_define(alloc: Global, names: &[Name], done: &mut Sources, part: &Part) -> Result<(), Stop>
-    requires { AreFormed (seen done.old) }
-    ensures tokens { OnOk result (spec.with_define (seen done.old) part.now.name (spec.lexed_value names.now part.now) ≡ Ok (seen done.new)) }
-    ensures formed { OnOk result (AreFormed (seen done.new)) }
-    ensures stopped { IfErr result (LexStopped (spec.with_define (seen done.old) part.now.name (spec.lexed_value names.now part.now))) }
-{
-    match lexed_value(alloc, names, part) {
-        Ok(tokens) => Ok(done.defines.push((part.name.copy(alloc)?, tokens))?),
-        Err(stop) => Err(stop),
+        Role::Source | Role::Include => file_tokens(alloc, names, part),
+        Role::Value => value_tokens(alloc, names, part),
     }
 }
 
 // The tokens of a file.
-#[tactic(auto, unfolding(crate::specs::Sources::lexed_file))]
-fn lexed_file(alloc: Global, names: &[Name], part: &Part) -> Result<Tokens, Stop>
-    ensures tokens { IfOk result (λ tokens. spec.lexed_file names.now part.now ≡ Ok tokens) }
-    ensures formed { IfOk result AreTokens }
-    ensures stopped { IfErr result (LexStopped (spec.lexed_file names.now part.now)) }
+#[tactic(auto, unfolding(crate::specs::Sources::file_refusal), using(crate::proofs::FileLemmas::lex_named, crate::proofs::FileLemmas::lex_caused))]
+fn file_tokens(alloc: Global, names: &[Name], part: &Part) -> Result<Tokens, Stop>
+    requires { part.now.file < length names.now }
+    ensures tokens { IfOk result (λ tokens. tokens ≡ tokens_of part.now.file part.now.bytes) }
+    ensures unrefused { OnOk result (spec.file_refusal names.now part.now ≡ None) }
+    ensures lexed { IfOk result (IsFile (length names.now)) }
+    ensures stopped { IfErr result (PartStopped (spec.file_refusal names.now part.now)) }
 {
     let bytes = part.bytes.as_slice();
     if bytes.len() > limits::SOURCE {
@@ -134,11 +113,13 @@ fn lexed_file(alloc: Global, names: &[Name], part: &Part) -> Result<Tokens, Stop
 }
 
 // The tokens of a value, on the line of the list where it stands.
-#[tactic(auto, unfolding(crate::specs::Sources::lexed_value), using(crate::proofs::SourceLemmas::formed_on))]
-fn lexed_value(alloc: Global, names: &[Name], part: &Part) -> Result<Tokens, Stop>
-    ensures tokens { IfOk result (λ tokens. spec.lexed_value names.now part.now ≡ Ok tokens) }
-    ensures formed { IfOk result AreTokens }
-    ensures stopped { IfErr result (LexStopped (spec.lexed_value names.now part.now)) }
+#[tactic(auto, unfolding(crate::specs::Sources::value_refusal), using(crate::proofs::SourceLemmas::lexed_on_line, crate::proofs::FileLemmas::lex_named_on, crate::proofs::FileLemmas::lex_caused_on))]
+fn value_tokens(alloc: Global, names: &[Name], part: &Part) -> Result<Tokens, Stop>
+    requires { part.now.file < length names.now }
+    ensures tokens { IfOk result (λ tokens. tokens ≡ spec.tokens_on part.now.line (tokens_of part.now.file part.now.bytes)) }
+    ensures unrefused { OnOk result (spec.value_refusal names.now part.now ≡ None) }
+    ensures lexed { IfOk result (IsLexed (length names.now)) }
+    ensures stopped { IfErr result (PartStopped (spec.value_refusal names.now part.now)) }
 {
     match lex(alloc, part.file, part.bytes.as_slice()) {
         Ok(tokens) => Ok(tokens_on(alloc, part.line, &tokens)?),
@@ -188,10 +169,8 @@ fn tokens_on(alloc: Global, line: u32, tokens: &Tokens) -> Result<Tokens, Memory
     ensures { IfOk result (λ moved. moved ≡ spec.tokens_on line tokens.now) }
 {
     let mut list = Vec::new(alloc);
-    let mut rest = tokens.list.as_slice();
-    while let Some((token, behind)) = rest.split_first() {
+    for token in tokens.list.as_slice() {
         list.push(token_on(alloc, line, token)?)?;
-        rest = behind;
     }
     Ok(Tokens {
         file: tokens.file,

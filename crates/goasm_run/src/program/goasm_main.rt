@@ -7,8 +7,8 @@ ghost use Rattle.goasm_run.specs.Commands.{plan_of};
 ghost use Rattle.goasm_run.specs.Lines.{words_line, memory_line, unread_line};
 ghost use Rattle.goasm_run.specs.Statuses.{OutFailed, ErrFailed, KeptBack, Told, IsWritten};
 
-use crate::program::dispatch::answer;
 use crate::lines;
+use crate::program::dispatch::answer;
 use crate::stop::Stop;
 use crate::words::Words;
 use goasm_base::{Failed, Memory, Shelf, Sink};

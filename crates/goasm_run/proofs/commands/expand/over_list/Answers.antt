@@ -11,4 +11,4 @@ returns-in_err-list g c =
     let plan = list_answer c.args.name.now (expand_lines c.args.name.now) c.args.bytes.now in
     stop_answers shelf plan c.from_residual.result c.in_err-list.field-0.0 c.from_residual.ensures.1
     (led_stopped shelf plan plan c.in_err-list.field-0.0 (leads_nowhere shelf.holds plan shelf.reads_now) (λ name. refl)
-        (c.in_err-list.ensures.stopped (expand_lines c.args.name.now)))
+    (c.in_err-list.ensures.stopped (expand_lines c.args.name.now)))

@@ -19,8 +19,11 @@ pub returns-in-Ok-write-clause-succeeds : goal.returns-in-Ok-write-clause-succee
 returns-in-Ok-write-clause-succeeds g c files text told is =
     let shelf = shelf_change g.F.Shelf.holds g.F.Shelf.faults g.F.Shelf.reads c.args.shelf.now c.answer.new.shelf in
     let plan = plan_of c.args.words.now in
-    inl (refl, c.in-Ok-write.ensures.ok ∙ ap (λ t. with_more (g.O.Sink.took c.args.out.now) t)
-    (c.as_slice.ensures ∙ one_text shelf files plan c.in-Ok.text text told (text_ends shelf plan c.in-Ok.text c.in-Ok.ensures) is))
+    inl (
+      refl,
+      c.in-Ok-write.ensures.ok ∙ ap (λ t. with_more (g.O.Sink.took c.args.out.now) t)
+          (c.as_slice.ensures ∙ one_text shelf files plan c.in-Ok.text text told (text_ends shelf plan c.in-Ok.text c.in-Ok.ensures) is),
+    )
 
 pub returns-in-Ok-write-clause-refuses : goal.returns-in-Ok-write-clause-refuses
 returns-in-Ok-write-clause-refuses g c files line told is =
@@ -40,12 +43,15 @@ pub returns-in-Ok-clause-succeeds : goal.returns-in-Ok-clause-succeeds
 returns-in-Ok-clause-succeeds g c files text told is =
     let shelf = shelf_change g.F.Shelf.holds g.F.Shelf.faults g.F.Shelf.reads c.args.shelf.now c.answer.new.shelf in
     let plan = plan_of c.args.words.now in
-    inr (inl (refl, record {
-      failed = c.in-Err-write.ensures.failed;
-      prefix = subst (TookPrefix (g.O.Sink.took c.args.out.now) (g.O.Sink.took c.write.new.self))
-          (c.as_slice.ensures ∙ one_text shelf files plan c.in-Ok.text text told (text_ends shelf plan c.in-Ok.text c.in-Ok.ensures) is)
-          c.in-Err-write.ensures.err;
-    }))
+    inr (inl (
+      refl,
+      record {
+        failed = c.in-Err-write.ensures.failed;
+        prefix = subst (TookPrefix (g.O.Sink.took c.args.out.now) (g.O.Sink.took c.write.new.self))
+            (c.as_slice.ensures ∙ one_text shelf files plan c.in-Ok.text text told (text_ends shelf plan c.in-Ok.text c.in-Ok.ensures) is)
+            c.in-Err-write.ensures.err;
+      },
+    ))
 
 pub returns-in-Ok-clause-refuses : goal.returns-in-Ok-clause-refuses
 returns-in-Ok-clause-refuses g c files line told is =
@@ -68,7 +74,7 @@ returns-clause-succeeds g c files text told is =
     let err = sink_change g.E.Sink.took g.E.Sink.faults c.args.err.now c.tell.new.err in
     let plan = plan_of c.args.words.now in
     inr (inr (kept_back shelf plan out err files text c.in-Err.stop c.tell.result told is refl
-        (words_stopped shelf plan c.in-Err.stop c.in-Err.ensures) c.tell.ensures))
+    (words_stopped shelf plan c.in-Err.stop c.in-Err.ensures) c.tell.ensures))
 
 pub returns-clause-refuses : goal.returns-clause-refuses
 returns-clause-refuses g c files line told is =
@@ -94,4 +100,4 @@ returns-clause-unwritten g c five =
     let err = sink_change g.E.Sink.took g.E.Sink.faults c.args.err.now c.tell.new.err in
     let plan = plan_of c.args.words.now in
     inr (unsaid shelf plan out err c.in-Err.stop c.tell.result refl
-        (words_stopped shelf plan c.in-Err.stop c.in-Err.ensures) c.tell.ensures five)
+    (words_stopped shelf plan c.in-Err.stop c.in-Err.ensures) c.tell.ensures five)
