@@ -1,9 +1,9 @@
-ghost use Rattle.std.specs.Prelude.{◌≡◌, ℕ, ◌≤◌, None, length, take, drop, OnOk, OnErr, IsTrue};
+ghost use Rattle.std.specs.Prelude.{◌≡◌, ℕ, ◌≤◌, None, take, OnOk, OnErr, IsTrue};
 ghost use Rattle.std.specs.Io.KnownBytes.{Appends};
 ghost use Rattle.goasm_base.specs.Shelf.{Rose};
 ghost use Rattle.goasm_base.specs.Sink.{with_more, TookPrefix};
 
-use goasm_base::{Failed, Sink};
+use goasm_base::{Failed, Sink, behind};
 use std::io::Write;
 
 /// An output stream. What it took isn't told.
@@ -44,13 +44,6 @@ impl<W: Write + Drop> Sink for Stream<W> {
         self.faults = self.faults.saturating_add(1);
         Err(Failed)
     }
-}
-
-fn behind(bytes: &[u8], count: usize) -> &[u8]
-    requires { count ≤ length bytes.now }
-    ensures { result.now ≡ drop count bytes.now }
-{
-    &bytes[count..]
 }
 
 // Whether all of the bytes were written. A write that takes nothing of a piece has failed.

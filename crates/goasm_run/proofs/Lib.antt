@@ -5,3 +5,5 @@ mod Examples
 mod PartLemmas
 mod SourceLemmas
 mod StatementLemmas
+mod NumberLemmas
+mod FileLemmas

@@ -10,7 +10,7 @@ use Rattle.goasm_run.specs.declared.stop.Stop.TheVariants as stops
 use Rattle.goasm_run.specs.Changes.{ShelfChange, shelf_change, ReadsAll}
 use Rattle.goasm_run.specs.Plan.{Plan}
 use Rattle.goasm_run.specs.Parts.{ask_parts}
-use Rattle.goasm_run.specs.PartsRead.{LeadsTo, LineStopped, PartsStopped}
+use Rattle.goasm_run.specs.PartsRead.{LeadsTo, NumbersUpTo, LineStopped, PartsStopped}
 
 -- the files of the lines before the rest are read
 pub record ReadUpTo (shelf : ShelfChange) (now : Option Files) (all rest : List ListLine) (number : ℕ) (parts : List Part) : Type 0 where
@@ -18,6 +18,7 @@ pub record ReadUpTo (shelf : ShelfChange) (now : Option Files) (all rest : List 
   pub room : number + file_count rest ≤ 1001
   pub same : now ≡ shelf.holds
   pub unfailed : ReadsAll shelf
+  pub numbered : NumbersUpTo number parts
 
 pub line_at : (lines : List ListLine) (index : ℕ) (line : ListLine)
     → index < length lines → line ≡ get_or lines index line → drop index lines ≡ line ∷ drop (suc index) lines

@@ -1,18 +1,20 @@
 -- The tokens of a build's parts.
-use Rattle.std.specs.Prelude.{All, Ok, Err, None, Result}
-use Rattle.std.proofs.Common.{◌≡◌, ◌<◌, ◌+◌, add-one, ℕ, suc, List, [], ◌∷◌, ◌++◌, Option, Some, map, length, drop, get_or, drop-cons, append_assoc, append-nil, refl, sym, ap, ◌∙◌}
+use Rattle.std.specs.Prelude.{All, Ok, Err, None}
+use Rattle.std.proofs.Common.{◌≡◌, ◌<◌, ◌≤◌, ◌+◌, add-one, arith, length-append, ℕ, suc, List, [], ◌∷◌, ◌++◌, Some, map, length, drop, get_or, drop-cons, append_assoc, append-nil, refl, sym, subst, ap, ◌∙◌}
 use Rattle.std.proofs.lemmas.List.Elements.{All-map}
 use Rattle.std.specs.List.{cons_option}
 use Rattle.asm_lex.specs.declared.token.Token.{Token}
 use Rattle.asm_lex.specs.declared.token.Tokens.{Tokens}
+use Rattle.asm_lex.specs.Cut.{tokens_of}
+use Rattle.asm_macro.specs.Places.{AreInTheirFile}
 use Rattle.asm_lex.specs.Form.{HasForm, EndsWithEnd, AreTokens}
 use Rattle.goasm_run.specs.declared.part.Role.{Role}
 use Rattle.goasm_run.specs.declared.part.Role.TheVariants as roles
 use Rattle.goasm_run.specs.declared.part.Part.{Part}
 use Rattle.goasm_run.specs.declared.stop.Stop.{Stop}
 use Rattle.goasm_run.specs.declared.stop.Stop.TheVariants as stops
-use Rattle.goasm_run.specs.Sources.{Sources, token_on, tokens_on, part_tokens, refusal_by, source_by, include_by, define_by, first_refusal, sources_of, over_refusal, lexed, AreFormed}
-use Rattle.goasm_run.specs.SourcesLexed.{with_part, PartStopped, LexStopped}
+use Rattle.goasm_run.specs.Sources.{Sources, file_name, token_on, tokens_on, part_tokens, refusal_by, source_by, include_by, define_by, first_refusal, sources_of, lexed, names_of}
+use Rattle.goasm_run.specs.SourcesLexed.{IsLexed, AreLexed, with_part, PartStopped, LexStopped}
 
 abbrev made_of : List Tokens → List (List ℕ × Tokens) → List (List ℕ × Tokens) → Sources
 made_of sources includes defines = record { sources = sources; includes = includes; defines = defines }
@@ -26,7 +28,8 @@ joined done rest =
 pub record LexedUpTo (names : List (List ℕ)) (all rest : List Part) (done : Sources) : Type 0 where
   pub unrefused : first_refusal names rest ≡ first_refusal names all
   pub tokens : joined done (sources_of rest) ≡ sources_of all
-  pub formed : AreFormed done
+  pub lexed_tokens : AreLexed (length names) done
+  pub few : length done.sources + length done.includes + length (names_of rest) ≤ 1000
 
 -- tokens keep their form on another line
 
@@ -45,7 +48,35 @@ formed_on line tokens formed = record {
   ended = ended_on line tokens.list formed.ended;
 }
 
+placed_on : (line file : ℕ) (list : List Token) → All (λ token. token.pos.file ≡ file) list
+    → All (λ token. token.pos.file ≡ file) (map (token_on line) list)
+placed_on line file list all = All-map (λ token. token.pos.file ≡ file) (token_on line) list all
+
+pub lexed_on_line : (line files : ℕ) (tokens : Tokens) → IsLexed files tokens → IsLexed files (tokens_on line tokens)
+lexed_on_line line files tokens is = record {
+  formed = formed_on line tokens is.formed;
+  placed = placed_on line tokens.file tokens.list is.placed;
+  below = is.below;
+}
+
+pub value_lexed : (line file files : ℕ) (bytes : List ℕ) (tokens moved : Tokens)
+    → moved ≡ tokens_on line tokens → tokens ≡ tokens_of file bytes → AreTokens tokens
+    → All (λ token. token.pos.file ≡ file) (tokens_of file bytes).list → file < files → IsLexed files moved
+value_lexed line file files bytes tokens moved is same formed placed below =
+    subst (IsLexed files) (sym is) (lexed_on_line line files tokens (record {
+      formed = formed;
+      placed = subst AreInTheirFile (sym same) placed;
+      below = subst (λ t. t.file < files) (sym same) below;
+    }))
+
 -- one part after the other
+
+few_on : (role : Role) (name : List ℕ) (tokens : Tokens) (done : Sources) (rest : List Part)
+    → length done.sources + length done.includes + length (cons_option (file_name role name) (names_of rest)) ≤ 1000
+    → length (with_part done role name tokens).sources + length (with_part done role name tokens).includes + length (names_of rest) ≤ 1000
+few_on roles.Source name tokens done rest few = omega (arith, few, length-append done.sources (tokens ∷ []))
+few_on roles.Include name tokens done rest few = omega (arith, few, length-append done.includes ((name, tokens) ∷ []))
+few_on roles.Value name tokens done rest few = few
 
 pub part_at : (parts : List Part) (index : ℕ) (part : Part)
     → index < length parts → part ≡ get_or parts index part → drop index parts ≡ part ∷ drop (index + 1) parts
@@ -86,13 +117,16 @@ refused_part names part parts line is = rw is refl
 
 pub lexed_on : (names : List (List ℕ)) (all left rest : List Part) (part : Part) (done after : Sources)
     → LexedUpTo names all left done → left ≡ part ∷ rest → refusal_by part.role names part ≡ None
-    → after ≡ with_part done part.role part.name (part_tokens part) → AreFormed after → LexedUpTo names all rest after
+    → after ≡ with_part done part.role part.name (part_tokens part) → AreLexed (length names) after → LexedUpTo names all rest after
 lexed_on names all left rest part done after reached is unrefused added formed = record {
   unrefused = sym (unrefused_part names part rest unrefused) ∙ ap (first_refusal names) (sym is) ∙ reached.unrefused;
   tokens = ap (λ d. joined d (sources_of rest)) added
       ∙ joined_on part.role part.name (part_tokens part) done (sources_of rest)
       ∙ ap (joined done) (with_front_part part rest ∙ ap sources_of (sym is)) ∙ reached.tokens;
-  formed = formed;
+  lexed_tokens = formed;
+  few = subst (λ s. length s.sources + length s.includes + length (names_of rest) ≤ 1000) (sym added)
+      (few_on part.role part.name (part_tokens part) done rest
+      (subst (λ parts. length done.sources + length done.includes + length (names_of parts) ≤ 1000) is reached.few));
 }
 
 refusal_lexed : (names : List (List ℕ)) (all : List Part) (line : List ℕ)

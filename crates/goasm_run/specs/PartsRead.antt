@@ -1,5 +1,5 @@
 -- How reading the files of a list goes on, line by line.
-use Rattle.std.specs.Prelude.{◌≡◌, ◌⊎◌, ℕ, List, [], ◌∷◌, Option}
+use Rattle.std.specs.Prelude.{◌≡◌, ◌⊎◌, ◌<◌, ℕ, suc, List, [], ◌∷◌, length, All, Option}
 use Rattle.goasm_base.specs.Shelf.{Files}
 use Rattle.goasm_list.specs.declared.line.ListLine.{ListLine}
 use Rattle.goasm_run.specs.declared.part.Part.{Part}
@@ -8,6 +8,7 @@ use Rattle.goasm_run.specs.declared.stop.Stop.TheVariants as stops
 use Rattle.goasm_run.specs.Changes.{ShelfChange, FailsToRead}
 use Rattle.goasm_run.specs.Plan.{Plan, Ending, ComesTo, AsksFor, MakesSome, MakesReads}
 use Rattle.goasm_run.specs.Parts.{ask_parts}
+use Rattle.goasm_run.specs.Sources.{names_of}
 
 -- A plan leads to what is left of it, by reads that the shelf answered, which lead from one count to another. So what comes
 -- of the rest comes of the plan.
@@ -22,6 +23,11 @@ abbrev pub LineLeads : Option Files → ListLine → ℕ → List Part → ℕ �
 LineLeads told line number parts before number_now parts_now between =
     (lines : List ListLine) (next : List Part → Plan)
     → LeadsTo told (ask_parts number (line ∷ lines) parts next) before (ask_parts number_now lines parts_now next) between
+
+-- the parts that are files have the numbers below this one, from 1
+pub record NumbersUpTo (number : ℕ) (parts : List Part) : Type 0 where
+  pub count : number ≡ suc (length (names_of parts))
+  pub below : All (λ part. part.file < number) parts
 
 -- reading the file of a line ended so
 abbrev pub LineStopped : ShelfChange → ListLine → ℕ → List Part → Stop → Type 0

@@ -1,5 +1,5 @@
 -- The tokens of the parts of a build, or the first refusal in their order.
-use Rattle.std.specs.Prelude.{◌≡◌, ℕ, List, [], ◌∷◌, nat_lt, length, map, All, Option, Some, None, Result, Ok, Err, if◌then◌else◌}
+use Rattle.std.specs.Prelude.{ℕ, List, [], ◌∷◌, nat_lt, length, map, Option, Some, None, Result, Ok, Err, if◌then◌else◌}
 use Rattle.std.specs.List.{filter_map}
 use Rattle.std.specs.Option.{option_map, option_or}
 use Rattle.goasm_base.specs.declared.pos.Pos.{Pos}
@@ -11,7 +11,6 @@ use Rattle.asm_lex.specs.Cut.{tokens_of}
 use Rattle.asm_lex.specs.Faults.{refusal_of}
 use Rattle.goasm_text.specs.declared.refusal.Refusal.TheVariants.{Lex}
 use Rattle.goasm_text.specs.Lines.{line_of}
-use Rattle.asm_lex.specs.Form.{AreTokens}
 use Rattle.goasm_run.specs.declared.sources.Sources as sources
 use Rattle.goasm_run.specs.declared.part.Role.{Role}
 use Rattle.goasm_run.specs.declared.part.Role.TheVariants as roles
@@ -31,9 +30,13 @@ file_name roles.Source name = Some name
 file_name roles.Include name = Some name
 file_name roles.Value name = None
 
+-- the names of the parts that are files
+abbrev pub names_of : List Part → List (List ℕ)
+names_of parts = filter_map (λ part. file_name part.role part.name) parts
+
 -- the names of files by their numbers: the list, and those that it names
 unfoldable pub file_names : List ℕ → List Part → List (List ℕ)
-file_names list parts = list ∷ filter_map (λ part. file_name part.role part.name) parts
+file_names list parts = list ∷ names_of parts
 
 -- the place of a token of a value is the line on which the value stands
 abbrev pub place_on : ℕ → Pos → Pos
@@ -116,9 +119,3 @@ lexed names parts = over_refusal (first_refusal names parts) (sources_of parts)
 -- how the code's tokens of a build are seen
 abbrev pub seen : sources.Sources → Sources
 seen found = record { sources = found.sources.items; includes = found.includes.items; defines = found.defines.items }
-
--- all tokens have the form that they may be handed on in
-pub record AreFormed (found : Sources) : Type 0 where
-  pub sources : All AreTokens found.sources
-  pub includes : All (λ include. AreTokens include.1) found.includes
-  pub defines : All (λ define. AreTokens define.1) found.defines

@@ -56,6 +56,6 @@ pub fn list_refused(alloc: Global, name: &[u8], number: u32) -> Result<Bytes, Me
 pub fn table(alloc: Global, name: &[u8], fault: TableNo) -> Result<Bytes, Memory>
     ensures { IfOk result (λ line. line ≡ table_line name.now fault) }
 {
-    let names = [Name::new(Vec::from_slice(alloc, name)?)];
+    let names = [Name::from_slice(alloc, name)?];
     line_of(alloc, &Refusal::Table(fault), names.as_slice())
 }

@@ -7,7 +7,8 @@ ghost use Rattle.goasm_run.specs.Changes.{shelf_change, ReadsAll};
 ghost use Rattle.goasm_run.specs.Plan.{Plan};
 ghost use Rattle.goasm_run.specs.Parts.{file_part, value_part, ask_parts};
 ghost use Rattle.goasm_run.specs.Stops.{IsRead, ReadStopped};
-ghost use Rattle.goasm_run.specs.PartsRead.{LeadsTo, LineLeads, LineStopped, PartsStopped};
+ghost use Rattle.goasm_run.specs.PartsRead.{LeadsTo, LineLeads, NumbersUpTo, LineStopped, PartsStopped};
+ghost use Rattle.goasm_run.specs.SourcesLexed.{AreNumbered};
 
 use crate::limits;
 use crate::part::{Part, Role};
@@ -18,6 +19,7 @@ use goasm_list::{LineKind, ListLine};
 use std::alloc::Global;
 
 /// The parts of a build in the order of its list. Every file that the list names is read.
+#[tactic(auto, using(crate::proofs::NumberLemmas::numbers_all))]
 pub fn read_parts<F: Shelf>(
     alloc: Global,
     shelf: &mut F,
@@ -27,6 +29,7 @@ pub fn read_parts<F: Shelf>(
     ensures leads { IfOk result (λ parts. (next : List Part → Plan)
         → LeadsTo (F.holds shelf.old) (ask_parts 1 lines.now [] next) (F.reads shelf.old) (next parts.items) (F.reads shelf.new)) }
     ensures unfailed { IfOk result (λ _. ReadsAll (shelf_change F.holds F.faults F.reads shelf.old shelf.new)) }
+    ensures numbered { IfOk result (λ parts. AreNumbered parts.items) }
     ensures stopped { IfErr result (PartsStopped (shelf_change F.holds F.faults F.reads shelf.old shelf.new) lines.now) }
 {
     let mut parts = Vec::new(alloc);
@@ -38,6 +41,7 @@ pub fn read_parts<F: Shelf>(
 }
 
 // Reads the file of a line that names one, and answers the number of the next file.
+#[tactic(auto, using(crate::proofs::NumberLemmas::numbers_file, crate::proofs::NumberLemmas::numbers_value))]
 fn read_line<F: Shelf>(
     alloc: Global,
     shelf: &mut F,
@@ -49,6 +53,7 @@ fn read_line<F: Shelf>(
     ensures leads { IfOk result (λ next. LineLeads (F.holds shelf.old) line.now
         number parts.old.items (F.reads shelf.old) next parts.new.items (F.reads shelf.new)) }
     ensures next { IfOk result (λ next. next ≤ number + file_count (line.now ∷ [])) }
+    ensures numbered { IfOk result (λ next. NumbersUpTo number parts.old.items → NumbersUpTo next parts.new.items) }
     ensures unfailed { IfOk result (λ _. ReadsAll (shelf_change F.holds F.faults F.reads shelf.old shelf.new)) }
     ensures stopped { IfErr result (LineStopped (shelf_change F.holds F.faults F.reads shelf.old shelf.new) line.now number parts.old.items) }
     ensures same { F.holds shelf.new ≡ F.holds shelf.old }

@@ -22,6 +22,6 @@ pub fn read_named<F: Shelf>(
     match shelf.read(alloc, name, limit) {
         Ok(bytes) => Ok(bytes),
         Err(ShelfNo::Memory) => Err(Stop::Memory),
-        Err(ShelfNo::Failed) => Err(Stop::Unread(Bytes::new(Vec::from_slice(alloc, name)?))),
+        Err(ShelfNo::Failed) => Err(Stop::Unread(Bytes::from_slice(alloc, name)?)),
     }
 }

@@ -1,10 +1,9 @@
-ghost use Rattle.std.specs.Prelude.{◌≡◌, ℕ, None, All, IfOk, IfErr, OnOk, Ok};
+ghost use Rattle.std.specs.Prelude.{◌≡◌, ◌+◌, ◌<◌, ◌≤◌, ℕ, None, All, length, IfOk, IfErr, OnOk, Ok};
 ghost use Rattle.asm_lex.specs.Cut.{tokens_of};
-ghost use Rattle.asm_lex.specs.Form.{AreTokens};
 ghost use Rattle.goasm_run.specs.declared.stop.Stop.TheVariants as stops;
 ghost use Rattle.goasm_run.specs.Sources as spec;
-ghost use Rattle.goasm_run.specs.Sources.{seen, AreFormed};
-ghost use Rattle.goasm_run.specs.SourcesLexed.{with_part, PartStopped, LexStopped};
+ghost use Rattle.goasm_run.specs.Sources.{seen, names_of};
+ghost use Rattle.goasm_run.specs.SourcesLexed.{IsLexed, IsFile, IsPart, AreLexed, with_part, PartStopped, LexStopped};
 
 use crate::part::{Part, Role};
 use crate::stop::Stop;
@@ -32,7 +31,7 @@ pub fn file_names(alloc: Global, list: &[u8], parts: &[Part]) -> Result<Vec<Name
     ensures memory { IfErr result (λ stop. stop ≡ stops.Memory) }
 {
     let mut names = Vec::new(alloc);
-    names.push(Name::new(Vec::from_slice(alloc, list)?))?;
+    names.push(Name::from_slice(alloc, list)?)?;
     for part in parts {
         match part.role {
             Role::Source | Role::Include => names.push(part.name.copy(alloc)?)?,
@@ -45,8 +44,11 @@ pub fn file_names(alloc: Global, list: &[u8], parts: &[Part]) -> Result<Vec<Name
 /// The tokens of all parts, or the first refusal in their order.
 #[tactic(auto, unfolding(crate::specs::Sources::sources_of))]
 pub fn lexed(alloc: Global, names: &[Name], parts: &[Part]) -> Result<Sources, Stop>
+    requires named { All (λ part. part.file < length names.now) parts.now }
+    requires few { length (names_of parts.now) ≤ 1000 }
     ensures tokens { IfOk result (λ found. spec.lexed names.now parts.now ≡ Ok (seen found)) }
-    ensures formed { IfOk result (λ found. AreFormed (seen found)) }
+    ensures lexed { IfOk result (λ found. AreLexed (length names.now) (seen found)) }
+    ensures few { IfOk result (λ found. length found.sources.items + length found.includes.items ≤ 1000) }
     ensures stopped { IfErr result (LexStopped (spec.lexed names.now parts.now)) }
 {
     let mut done = Sources {
@@ -62,10 +64,11 @@ pub fn lexed(alloc: Global, names: &[Name], parts: &[Part]) -> Result<Sources, S
 
 // Adds the tokens of a part.
 fn add(alloc: Global, names: &[Name], done: &mut Sources, part: &Part) -> Result<(), Stop>
-    requires { AreFormed (seen done.old) }
+    requires named { part.now.file < length names.now }
+    requires lexed { AreLexed (length names.now) (seen done.old) }
     ensures tokens { OnOk result (seen done.new ≡ with_part (seen done.old) part.now.role part.now.name (spec.part_tokens part.now)) }
     ensures unrefused { OnOk result (spec.refusal_by part.now.role names.now part.now ≡ None) }
-    ensures formed { OnOk result (AreFormed (seen done.new)) }
+    ensures lexed { OnOk result (AreLexed (length names.now) (seen done.new)) }
     ensures stopped { IfErr result (PartStopped (spec.refusal_by part.now.role names.now part.now)) }
 {
     let tokens = part_tokens(alloc, names, part)?;
@@ -77,9 +80,10 @@ fn add(alloc: Global, names: &[Name], done: &mut Sources, part: &Part) -> Result
 }
 
 fn part_tokens(alloc: Global, names: &[Name], part: &Part) -> Result<Tokens, Stop>
+    requires { part.now.file < length names.now }
     ensures tokens { IfOk result (λ tokens. tokens ≡ spec.part_tokens part.now) }
     ensures unrefused { OnOk result (spec.refusal_by part.now.role names.now part.now ≡ None) }
-    ensures formed { IfOk result AreTokens }
+    ensures lexed { IfOk result (IsPart part.now.role (length names.now)) }
     ensures stopped { IfErr result (PartStopped (spec.refusal_by part.now.role names.now part.now)) }
 {
     match part.role {
@@ -89,11 +93,12 @@ fn part_tokens(alloc: Global, names: &[Name], part: &Part) -> Result<Tokens, Sto
 }
 
 // The tokens of a file.
-#[tactic(auto, unfolding(crate::specs::Sources::file_refusal))]
+#[tactic(auto, unfolding(crate::specs::Sources::file_refusal), using(crate::proofs::FileLemmas::lex_named, crate::proofs::FileLemmas::lex_caused))]
 fn file_tokens(alloc: Global, names: &[Name], part: &Part) -> Result<Tokens, Stop>
+    requires { part.now.file < length names.now }
     ensures tokens { IfOk result (λ tokens. tokens ≡ tokens_of part.now.file part.now.bytes) }
     ensures unrefused { OnOk result (spec.file_refusal names.now part.now ≡ None) }
-    ensures formed { IfOk result AreTokens }
+    ensures lexed { IfOk result (IsFile (length names.now)) }
     ensures stopped { IfErr result (PartStopped (spec.file_refusal names.now part.now)) }
 {
     let bytes = part.bytes.as_slice();
@@ -108,11 +113,12 @@ fn file_tokens(alloc: Global, names: &[Name], part: &Part) -> Result<Tokens, Sto
 }
 
 // The tokens of a value, on the line of the list where it stands.
-#[tactic(auto, unfolding(crate::specs::Sources::value_refusal), using(crate::proofs::SourceLemmas::formed_on))]
+#[tactic(auto, unfolding(crate::specs::Sources::value_refusal), using(crate::proofs::SourceLemmas::lexed_on_line, crate::proofs::FileLemmas::lex_named_on, crate::proofs::FileLemmas::lex_caused_on))]
 fn value_tokens(alloc: Global, names: &[Name], part: &Part) -> Result<Tokens, Stop>
+    requires { part.now.file < length names.now }
     ensures tokens { IfOk result (λ tokens. tokens ≡ spec.tokens_on part.now.line (tokens_of part.now.file part.now.bytes)) }
     ensures unrefused { OnOk result (spec.value_refusal names.now part.now ≡ None) }
-    ensures formed { IfOk result AreTokens }
+    ensures lexed { IfOk result (IsLexed (length names.now)) }
     ensures stopped { IfErr result (PartStopped (spec.value_refusal names.now part.now)) }
 {
     match lex(alloc, part.file, part.bytes.as_slice()) {

@@ -1,12 +1,15 @@
-ghost use Rattle.std.specs.Prelude.{◌≡◌, ℕ, List, [], ◌++◌, ◌+◌, ◌<◌, ◌^◌, ◌≤◌, length, Bool, false, IfOk, IfErr, OnOk, Ok};
+ghost use Rattle.std.specs.Prelude.{◌≡◌, ℕ, List, [], ◌++◌, ◌+◌, ◌<◌, ◌^◌, ◌≤◌, All, length, Bool, false, IfOk, IfErr, OnOk, Ok};
 ghost use Rattle.goasm_base.specs.Shelf.{Reads};
 ghost use Rattle.asm_macro.specs.Builds.{greatest_file, line_names_of, outcome_of};
 ghost use Rattle.goasm_run.specs.declared.stop.Stop.TheVariants as stops;
-ghost use Rattle.goasm_list.specs.Rules.{file_count};
+ghost use Rattle.goasm_list.specs.Rules as list;
 ghost use Rattle.goasm_run.specs.Changes.{shelf_change};
 ghost use Rattle.goasm_run.specs.Stops.{Gives, Answers};
 ghost use Rattle.goasm_run.specs.Lists.{list_answer};
-ghost use Rattle.goasm_run.specs.Sources.{seen, AreFormed};
+ghost use Rattle.asm_lex.specs.Form.{AreTokens};
+ghost use Rattle.asm_macro.specs.Places.{ArePlaced, file_count};
+ghost use Rattle.goasm_run.specs.Sources.{seen};
+ghost use Rattle.goasm_run.specs.SourcesLexed.{AreNumbered, AreLexed};
 ghost use Rattle.goasm_run.specs.Expand as spec;
 ghost use Rattle.goasm_run.specs.Expand.{list_text, over_outcome, over_sources, expand_answer, expand_lines, expand_plan};
 ghost use Rattle.goasm_run.specs.TokensWritten.{token_text};
@@ -19,7 +22,7 @@ use crate::read::read_named;
 use crate::sources::{Sources, file_names, lexed};
 use crate::stop::Stop;
 use asm_lex::{Kind, Token, Tokens};
-use asm_macro::{MacroNo, greatest_of, line_names};
+use asm_macro::{MacroNo, line_names};
 use goasm_base::{Bytes, Memory, Name, Shelf, Text};
 use goasm_list::ListLine;
 use goasm_text::{Refusal, line_of, push_place};
@@ -53,7 +56,7 @@ fn over_lines<F: Shelf>(
     name: &[u8],
     lines: &[ListLine],
 ) -> Result<Bytes, Stop>
-    requires { file_count lines.now ≤ 1000 }
+    requires { list.file_count lines.now ≤ 1000 }
     ensures { Answers (shelf_change F.holds F.faults F.reads shelf.old shelf.new) (expand_lines name.now lines.now) result }
 {
     let parts = read_parts(alloc, shelf, lines)?;
@@ -61,8 +64,9 @@ fn over_lines<F: Shelf>(
 }
 
 // The text over the parts of the build, or the first refusal.
-#[tactic(auto, unfolding(crate::specs::Expand::expand_answer))]
+#[tactic(auto, unfolding(crate::specs::Expand::expand_answer, crate::specs::Sources::file_names))]
 fn answer(alloc: Global, name: &[u8], parts: &[Part]) -> Result<Bytes, Stop>
+    requires { AreNumbered parts.now }
     ensures { Gives (expand_answer name.now parts.now) result }
 {
     let names = file_names(alloc, name, parts)?;
@@ -70,27 +74,29 @@ fn answer(alloc: Global, name: &[u8], parts: &[Part]) -> Result<Bytes, Stop>
     over_tokens(alloc, names, &sources)
 }
 
+#[tactic(auto, using(crate::proofs::FileLemmas::sources_formed, crate::proofs::FileLemmas::includes_formed, crate::proofs::FileLemmas::defines_formed, crate::proofs::FileLemmas::are_placed))]
 fn over_tokens(alloc: Global, names: Vec<Name>, found: &Sources) -> Result<Bytes, Stop>
-    requires { AreFormed (seen found.now) }
+    requires lexed { AreLexed (length names.items) (seen found.now) }
+    requires names { length names.items ≤ 1001 }
+    requires named { 0 < length names.items }
+    requires few { length found.now.sources.items + length found.now.includes.items ≤ 1000 }
     ensures { Gives (over_sources names.items (Ok (seen found.now))) result }
 {
-    let sources = found.sources.as_slice();
-    let includes = found.includes.as_slice();
-    let more = line_names(alloc, sources, includes)?;
-    // A file has a number below 2^32. So many names of `#line` don't fit in memory, which is what the answer says.
-    let room = u32::MAX - greatest_of(sources, includes, found.defines.as_slice());
-    if more.len() > room as usize {
-        return Err(Stop::Memory);
-    }
+    let more = line_names(alloc, found.sources.as_slice(), found.includes.as_slice())?;
     let files = with_more(names, more)?;
     over_files(alloc, files.as_slice(), found)
 }
 
 // The text over the tokens of the build and the names of its files, those of `#line` directives included.
+#[tactic(auto, using(crate::proofs::FileLemmas::macro_named, crate::proofs::FileLemmas::macro_caused, crate::proofs::FileLemmas::macro_fault))]
 fn over_files(alloc: Global, files: &[Name], found: &Sources) -> Result<Bytes, Stop>
-    requires formed { AreFormed (seen found.now) }
-    requires room { greatest_file (seen found.now).sources (seen found.now).includes (seen found.now).defines
-        + length (line_names_of (seen found.now).sources (seen found.now).includes) < 2 ^ 32 }
+    requires sources { All AreTokens found.now.sources.items }
+    requires includes { All (λ include. AreTokens include.1) found.now.includes.items }
+    requires defines { All (λ define. AreTokens define.1) found.now.defines.items }
+    requires placed { ArePlaced found.now.sources.items found.now.includes.items found.now.defines.items }
+    requires room { greatest_file found.now.sources.items found.now.includes.items found.now.defines.items
+        + length (line_names_of found.now.sources.items found.now.includes.items) < 2 ^ 32 }
+    requires named { file_count found.now.sources.items found.now.includes.items found.now.defines.items ≤ length files.now }
     ensures { Gives (over_outcome files.now
         (outcome_of (seen found.now).sources (seen found.now).includes (seen found.now).defines)) result }
 {

@@ -11,7 +11,7 @@ loop-part-preserved c =
     (drop (c.loop-part.part-index + 1) c.args.parts.now) c.part-item.result (seen c.loop-part.done) (seen c.add.new.done)
     c.loop-part.invariant
     (part_at c.args.parts.now c.loop-part.part-index c.part-item.result c.loop-part-test.true c.part-item.is)
-    c.in_ok-add.ensures.unrefused c.in_ok-add.ensures.tokens c.in_ok-add.ensures.formed
+    c.in_ok-add.ensures.unrefused c.in_ok-add.ensures.tokens c.in_ok-add.ensures.lexed
 
 pub returns-in_err-add-clause-stopped : goal.returns-in_err-add-clause-stopped
 returns-in_err-add-clause-stopped c =
