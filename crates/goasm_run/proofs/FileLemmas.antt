@@ -1,10 +1,9 @@
 -- The files in which refusals stand have names, and `#line` directives leave room for their numbers.
-use Rattle.std.proofs.Common.{◌≡◌, ◌≢◌, ◌+◌, ◌-◌, ◌*◌, ◌<◌, ◌≤◌, ◌^◌, ℕ, suc, List, [], ◌∷◌, ◌++◌, map, length, arith, refl, sym, ap, ◌∙◌, length-append, rules, subst}
+use Rattle.std.proofs.Common.{◌≡◌, ◌≢◌, ◌+◌, ◌-◌, ◌*◌, ◌<◌, ◌≤◌, ◌^◌, ℕ, List, [], ◌∷◌, ◌++◌, map, length, arith, refl, ap, ◌∙◌, length-append, rules}
 use Rattle.std.proofs.lemmas.List.{length-map}
 use Rattle.std.specs.Prelude.{All}
-use Rattle.std.specs.List.{sum_by, fold}
-use Rattle.std.proofs.lemmas.List.Elements.{All-cons, All-head, All-tail, All-weaker, All-append, All-map}
-use Rattle.goasm_base.specs.declared.pos.Pos.{Pos}
+use Rattle.std.specs.List.{fold}
+use Rattle.std.proofs.lemmas.List.Elements.{All-head, All-tail, All-weaker, All-append, All-map}
 use Rattle.asm_lex.specs.declared.token.Tokens.{Tokens}
 use Rattle.asm_lex.specs.declared.refusal.LexNo.{LexNo}
 use Rattle.asm_lex.specs.declared.refusal.LexNo.TheVariants as lexes
@@ -154,7 +153,7 @@ room_left count found names some few lexed most quarter =
     = All-append (λ tokens. length tokens.list ≤ source_limit + 1) found.sources (included_tokens found.includes)
     (All-weaker (IsFile count) (λ tokens. length tokens.list ≤ source_limit + 1) (λ tokens is. is.few) found.sources lexed.in_sources)
     (All-map (λ tokens. length tokens.list ≤ source_limit + 1) (λ include. include.1) found.includes
-        (All-weaker (λ include. IsFile count include.1) (λ include. length include.1.list ≤ source_limit + 1) (λ include is. is.few) found.includes lexed.in_includes)) in
+    (All-weaker (λ include. IsFile count include.1) (λ include. length include.1.list ≤ source_limit + 1) (λ include is. is.few) found.includes lexed.in_includes)) in
     let sum : token_count all ≤ 0 + 16777217 * length all = counted_from all 0 each in
     let joined : length all ≡ length found.sources + length (included_tokens found.includes) = length-append found.sources (included_tokens found.includes) in
     let mapped : length (included_tokens found.includes) ≡ length found.includes = length-map found.includes (λ include. include.1) in

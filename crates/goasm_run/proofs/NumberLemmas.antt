@@ -1,7 +1,7 @@
 -- The numbers of a build's files.
-use Rattle.std.proofs.Common.{◌≡◌, ◌+◌, ◌<◌, ◌≤◌, ℕ, suc, List, [], ◌∷◌, ◌++◌, Option, Some, None, length, arith, subst, ap, ◌∙◌, length-append, append-nil}
+use Rattle.std.proofs.Common.{◌≡◌, ◌+◌, ◌<◌, ◌≤◌, ℕ, List, [], ◌∷◌, ◌++◌, Some, None, length, arith, subst, ap, ◌∙◌, length-append, append-nil}
 use Rattle.std.specs.Prelude.{All}
-use Rattle.std.specs.List.{filter_map, cons_option}
+use Rattle.std.specs.List.{cons_option}
 use Rattle.std.proofs.lemmas.List.Elements.{All-push, All-weaker, filter_map-append}
 use Rattle.goasm_run.specs.declared.part.Part.{Part}
 use Rattle.goasm_run.specs.Sources.{file_name, names_of}
@@ -17,8 +17,8 @@ pub numbers_file : (number : ℕ) (parts : List Part) (part : Part)
     → NumbersUpTo number parts → NumbersUpTo (number + 1) (parts ++ part ∷ [])
 numbers_file number parts part is named numbers = record {
   count =
-    let more : names_of (parts ++ part ∷ []) ≡ names_of parts ++ part.name ∷ [] = names_with parts part ∙ ap (λ n. names_of parts ++ cons_option n []) named in
-    omega (arith, numbers.count, ap length more, length-append (names_of parts) (part.name ∷ []));
+      let more : names_of (parts ++ part ∷ []) ≡ names_of parts ++ part.name ∷ [] = names_with parts part ∙ ap (λ n. names_of parts ++ cons_option n []) named in
+      omega (arith, numbers.count, ap length more, length-append (names_of parts) (part.name ∷ []));
   below = All-push (λ p. p.file < number + 1) parts part
       (All-weaker (λ p. p.file < number) (λ p. p.file < number + 1) (λ p below. omega (arith, below)) parts numbers.below)
       (omega (arith, is));
@@ -29,8 +29,8 @@ pub numbers_value : (number : ℕ) (parts : List Part) (part : Part)
     → NumbersUpTo number parts → NumbersUpTo number (parts ++ part ∷ [])
 numbers_value number parts part is unnamed numbers = record {
   count =
-    let same : names_of (parts ++ part ∷ []) ≡ names_of parts ++ [] = names_with parts part ∙ ap (λ n. names_of parts ++ cons_option n []) unnamed in
-    rw (same, append-nil) numbers.count;
+      let same : names_of (parts ++ part ∷ []) ≡ names_of parts ++ [] = names_with parts part ∙ ap (λ n. names_of parts ++ cons_option n []) unnamed in
+      rw (same, append-nil) numbers.count;
   below = All-push (λ p. p.file < number) parts part numbers.below (omega (arith, is, numbers.count));
 }
 

@@ -1,6 +1,6 @@
 -- The tokens of a build's parts.
-use Rattle.std.specs.Prelude.{All, Ok, Err, None, Result}
-use Rattle.std.proofs.Common.{◌≡◌, ◌<◌, ◌≤◌, ◌+◌, add-one, arith, length-append, ℕ, suc, List, [], ◌∷◌, ◌++◌, Option, Some, map, length, drop, get_or, drop-cons, append_assoc, append-nil, refl, sym, subst, ap, ◌∙◌}
+use Rattle.std.specs.Prelude.{All, Ok, Err, None}
+use Rattle.std.proofs.Common.{◌≡◌, ◌<◌, ◌≤◌, ◌+◌, add-one, arith, length-append, ℕ, suc, List, [], ◌∷◌, ◌++◌, Some, map, length, drop, get_or, drop-cons, append_assoc, append-nil, refl, sym, subst, ap, ◌∙◌}
 use Rattle.std.proofs.lemmas.List.Elements.{All-map}
 use Rattle.std.specs.List.{cons_option}
 use Rattle.asm_lex.specs.declared.token.Token.{Token}
@@ -13,7 +13,7 @@ use Rattle.goasm_run.specs.declared.part.Role.TheVariants as roles
 use Rattle.goasm_run.specs.declared.part.Part.{Part}
 use Rattle.goasm_run.specs.declared.stop.Stop.{Stop}
 use Rattle.goasm_run.specs.declared.stop.Stop.TheVariants as stops
-use Rattle.goasm_run.specs.Sources.{Sources, file_name, token_on, tokens_on, part_tokens, refusal_by, source_by, include_by, define_by, first_refusal, sources_of, over_refusal, lexed, names_of}
+use Rattle.goasm_run.specs.Sources.{Sources, file_name, token_on, tokens_on, part_tokens, refusal_by, source_by, include_by, define_by, first_refusal, sources_of, lexed, names_of}
 use Rattle.goasm_run.specs.SourcesLexed.{IsLexed, AreLexed, with_part, PartStopped, LexStopped}
 
 abbrev made_of : List Tokens → List (List ℕ × Tokens) → List (List ℕ × Tokens) → Sources
@@ -126,7 +126,7 @@ lexed_on names all left rest part done after reached is unrefused added formed =
   lexed_tokens = formed;
   few = subst (λ s. length s.sources + length s.includes + length (names_of rest) ≤ 1000) (sym added)
       (few_on part.role part.name (part_tokens part) done rest
-          (subst (λ parts. length done.sources + length done.includes + length (names_of parts) ≤ 1000) is reached.few));
+      (subst (λ parts. length done.sources + length done.includes + length (names_of parts) ≤ 1000) is reached.few));
 }
 
 refusal_lexed : (names : List (List ℕ)) (all : List Part) (line : List ℕ)

@@ -1,9 +1,9 @@
 -- Tokens that are written one after the other are the lines of their statements.
-use Rattle.std.proofs.Common.{◌≡◌, ◌<◌, ℕ, suc, Bool, true, false, not, List, [], ◌∷◌, ◌++◌, length, map, drop, get_or, drop-cons, append_assoc, append-nil, codes, ◌⊎◌, inl, inr, refl, sym, ap, ◌∙◌, if◌then◌else◌}
+use Rattle.std.proofs.Common.{◌≡◌, ℕ, Bool, true, false, not, List, [], ◌∷◌, ◌++◌, map, append_assoc, codes, ◌⊎◌, inl, inr, refl, ap, ◌∙◌, if◌then◌else◌}
 use Rattle.std.specs.List.{concat}
 use Rattle.asm_lex.specs.declared.token.Token.{Token}
 use Rattle.goasm_text.specs.Lines.{newline, place_text}
-use Rattle.goasm_run.specs.Expand.{is_end, first_statement, later_statements, statements_of, tokens_text, statement_text, list_text}
+use Rattle.goasm_run.specs.Expand.{is_end, first_statement, later_statements, tokens_text, statement_text, list_text}
 use Rattle.goasm_run.specs.TokensWritten.{token_text}
 
 -- what the tokens add from here on, and the end of a line that has none

@@ -4,10 +4,9 @@ use Rattle.goasm_base.specs.Sink.{with_more}
 use Rattle.goasm_run.specs.declared.stop.Stop.{Stop}
 use Rattle.goasm_run.specs.declared.stop.Stop.TheVariants as stops
 use Rattle.goasm_run.specs.Changes.{ShelfChange, SinkChange, Takes, FailsToTake, TakesNothing}
-use Rattle.goasm_run.specs.Lines.{words_line, memory_line, unread_line}
 use Rattle.goasm_run.specs.Plan.{Plan, Ask, Tell, Refuse, Malformed, Text, Refusal, NoForm, EndsIn, StopsAt, MakesReads, ending_of}
-use Rattle.goasm_run.specs.Stops.{Stopped, Answers, AnswersWords}
-use Rattle.goasm_run.specs.Statuses.{SaysWhy, SaysRefusal, SaysWords, SaysMemory, SaysUnread, OutFailed, ErrFailed, KeptBack, NoMemory, NoFile, NoLine, IsToldBy, IsWritten, Told}
+use Rattle.goasm_run.specs.Stops.{Stopped, AnswersWords}
+use Rattle.goasm_run.specs.Statuses.{SaysWhy, SaysRefusal, SaysWords, SaysMemory, SaysUnread, ErrFailed, KeptBack, NoMemory, NoFile, NoLine, IsToldBy, Told}
 use Rattle.goasm_run.proofs.PlanLemmas.{no_text, one_refusal, malformed_unrefused, malformed_unread, ends_makes, stops_makes}
 
 -- the words' command ended so, or they have no command's form
