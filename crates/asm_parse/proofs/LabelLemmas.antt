@@ -1,5 +1,5 @@
 -- One turn of the loop over labels.
-use Rattle.std.proofs.Common.{◌≡◌, Bool, true, false, List, ℕ, [], ◌∷◌, refl, ap, sym, ◌∙◌}
+use Rattle.std.proofs.Common.{◌≡◌, Bool, true, false, List, ℕ, [], ◌∷◌, refl}
 use Rattle.std.specs.Prelude.{◌&&◌, not}
 use Rattle.asm_parse.specs.Lines.{Gathered, with_label, are_new}
 use Rattle.asm_parse.specs.Numbering.{has_name}

@@ -1,16 +1,14 @@
 -- One turn of the loop over statements.
-use Rattle.std.proofs.Common.{◌≡◌, ℕ, ◌+◌, ◌<◌, ◌≤◌, Bool, List, [], ◌∷◌, ◌++◌, length, get_or, drop, map, Option, Some, None, Result, Ok, Err, refl, sym, ap, ◌∙◌, arith, length-append}
+use Rattle.std.proofs.Common.{◌≡◌, ℕ, ◌+◌, ◌<◌, ◌≤◌, Bool, List, [], ◌∷◌, ◌++◌, length, get_or, drop, map, Option, Some, None, Result, Ok, Err, refl, sym, ap, ◌∙◌, arith}
 use Rattle.std.specs.Prelude.{option_to_list, unwrap_or}
 use Rattle.std.specs.Borrow.{Bor}
 use Rattle.std.proofs.lemmas.List.{drop_more, drop-map, at_drop_all, same_from_push, length_push, length-map}
 use Rattle.asm_lex.specs.declared.token.Token.{Token}
 use Rattle.asm_parse.specs.declared.ahead.Outlook.{Outlook}
 use Rattle.asm_parse.specs.declared.parse_no.ParseNo.{ParseNo}
-use Rattle.asm_parse.specs.Refusals.{◌>>=◌}
 use Rattle.asm_parse.specs.Ahead.{seen, outlook_of, outlooks_back}
 use Rattle.asm_parse.specs.Progress.{State}
 use Rattle.asm_parse.specs.Steps.{step, steps}
-use Rattle.asm_parse.specs.declared.unit.Unit.{Unit as Said}
 use Rattle.asm_parse.specs.Parse.{statements_of, read_of, unit_of, parsed}
 
 pub popped : (before after front : List Outlook) (result : Option Outlook) (own other : Outlook) → before ≡ after ++ option_to_list result

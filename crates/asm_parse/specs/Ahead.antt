@@ -1,5 +1,5 @@
 -- What stands ahead of a label or a LOCK: the first statement that belongs to the function, by its first word alone.
-use Rattle.std.specs.Prelude.{ℕ, Bool, ◌||◌, ◌&&◌, List, [], ◌∷◌, ◌++◌, map, bytes_eq, codes, Option, Some, None, if◌then◌else◌}
+use Rattle.std.specs.Prelude.{ℕ, ◌||◌, ◌&&◌, List, [], ◌∷◌, ◌++◌, map, bytes_eq, codes, Option, Some, None, if◌then◌else◌}
 use Rattle.std.specs.Borrow.{Bor}
 use Rattle.asm_lex.specs.declared.token.Token.{Token}
 use Rattle.asm_grammar.specs.Tokens.{word_of, is_word, is_sign}

@@ -1,5 +1,5 @@
 -- The statements and labels of a function, as they are gathered.
-use Rattle.std.specs.Prelude.{ℕ, Bool, true, false, not, ◌||◌, ◌&&◌, fold, List, [], ◌∷◌, ◌++◌, length, bytes_eq, codes, Option, Some, None, if◌then◌else◌}
+use Rattle.std.specs.Prelude.{ℕ, Bool, true, false, not, ◌||◌, ◌&&◌, fold, List, [], ◌∷◌, ◌++◌, length, bytes_eq, codes, Option, Some, None}
 use Rattle.goasm_base.specs.declared.pos.Pos.{Pos}
 use Rattle.asm_grammar.specs.declared.statement.CodeLine.{CodeLine}
 use Rattle.asm_grammar.specs.declared.directive.TextLine.{TextLine}

@@ -1,5 +1,5 @@
 -- The one unit that tokens say, or the first refusal.
-use Rattle.std.specs.Prelude.{ℕ, ℤ, Bool, List, [], map, Option, Some, None, Result, Ok, Err}
+use Rattle.std.specs.Prelude.{ℕ, ℤ, Bool, List, [], map, Option, Some, None, Result, Ok}
 use Rattle.std.specs.List.{slice_split}
 use Rattle.asm_lex.specs.declared.token.Token.{Token}
 use Rattle.asm_grammar.specs.Tokens as tokens

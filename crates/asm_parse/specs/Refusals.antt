@@ -1,11 +1,11 @@
 -- Refusals, and how a call answers what a definition says.
-use Rattle.std.specs.Prelude.{◌≡◌, ◌≢◌, ℕ, Bool, List, [], ◌∷◌, Option, Some, None, Result, Ok, Err, if◌then◌else◌}
+use Rattle.std.specs.Prelude.{◌≡◌, ◌≢◌, List, [], ◌∷◌, Result, Ok, Err}
 use Rattle.goasm_base.specs.declared.pos.Pos.{Pos}
 use Rattle.goasm_base.specs.Refusals as refusals
 use Rattle.asm_grammar.specs.declared.cause.Cause.{Cause}
 use Rattle.asm_grammar.specs.declared.cause.Cause.TheVariants.{DuplicateLabel, NamelessArgument, ArgumentSizeMissing, DataOrder, ZeroDivisor, OutsideText, RawCode}
 use Rattle.asm_parse.specs.declared.parse_no.ParseNo.{ParseNo}
-use Rattle.asm_parse.specs.declared.parse_no.ParseNo.TheVariants.{P1, P2, P3, P4, P5, P6, P7, P8, P9, P10, Memory}
+use Rattle.asm_parse.specs.declared.parse_no.ParseNo.TheVariants.{P2, P4, P5, P6, P7, P9, P10, Memory}
 
 abbrev pub refusal : Cause → Pos → ParseNo
 refusal DuplicateLabel pos = P2 pos

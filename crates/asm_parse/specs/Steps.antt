@@ -1,7 +1,6 @@
 -- How a statement is judged and kept.
 use Rattle.std.specs.Prelude.{ℕ, Bool, true, false, not, ◌&&◌, ◌||◌, List, [], ◌∷◌, Option, Some, None, Result, Ok, Err, is_some, if◌then◌else◌}
 use Rattle.asm_lex.specs.declared.token.Token.{Token}
-use Rattle.asm_lex.specs.declared.token.Tokens.{Tokens}
 use Rattle.goasm_base.specs.declared.pos.Pos.{Pos}
 use Rattle.asm_grammar.specs.declared.cause.Cause.{Cause}
 use Rattle.asm_grammar.specs.declared.cause.Cause.TheVariants.{DuplicateLabel, DataOrder, OutsideText}

@@ -47,97 +47,111 @@ fn refused(alloc: Global, source: &[u8]) -> Result<(u32, u32), Fail> {
     }
 }
 
+const NO_FORM: [(&str, (u32, u32)); 30] = [
+    ("TEXT f(SB), 4, $0-0\nMOVQ AX,\n", (1, 2)),
+    ("TEXT f(SB), 4, $0-0\n\nMOVQ 8(DX), AX\n", (1, 3)),
+    ("TEXT f(SB), 4, $0-0\nMOVQ (AX)(BX*3), CX\n", (1, 2)),
+    ("TEXT f(SB), 4, $0-0\nMOVQ $8(AX), CX\n", (1, 2)),
+    ("TEXT f(SB), 4, $0-0\nRET\nend:\n", (1, 3)),
+    ("TEXT f(SB), 4, $0-0\na: TEXT g(SB), 4, $0-0\n", (1, 2)),
+    ("a: DATA x+0(SB)/8, $1\n", (1, 1)),
+    ("TEXT f(SB), 4, $0-0\nLOCK\n", (1, 2)),
+    ("TEXT f(SB), 4, $0-0\nLOCK\nLOCK\nRET\n", (1, 2)),
+    ("TEXT f(SB), 4, $4-0\n", (1, 1)),
+    ("TEXT f(SB), 516, $8-0\n", (1, 1)),
+    ("TEXT f(SB), 4, $0x80000000-0\n", (1, 1)),
+    ("TEXT f(SB), 4, $0-0x80000000\n", (1, 1)),
+    ("TEXT f+0(SB), 4, $0-0\n", (1, 1)),
+    ("TEXT f(SB), $0-0\n", (1, 1)),
+    ("GLOBL x+0(SB), $8\n", (1, 1)),
+    ("DATA x+0(SB)/3, $1\n", (1, 1)),
+    ("DATA x+0(SB)/8, $\"1234567\"\n", (1, 1)),
+    ("DATA x+0(SB)/4, $y(SB)\n", (1, 1)),
+    ("DATA x+0x100000000(SB)/8, $1\n", (1, 1)),
+    ("TEXT f(SB), 4, $0-0\nMOVD.WW AX, BX\n", (1, 2)),
+    ("TEXT f(SB), 4, $0-0\n, AX\n", (1, 2)),
+    ("TEXT f(SB), 4, $0-0\nMOVQ 1+, AX\n", (1, 2)),
+    ("TEXT f(SB), 4, $0-0\nADD R1<<256, R2\n", (1, 2)),
+    ("TEXT f(SB), 4, $0-0\nMOVQ x<>+0(FP), AX\n", (1, 2)),
+    ("TEXT f(SB), 4, $0-0\nMOVQ (R1, DX), AX\n", (1, 2)),
+    ("TEXT f(SB), 4, $0-0\nMOVQ 8(SB), AX\n", (1, 2)),
+    ("TEXT f(SB), 4, $0-0\nMOVQ x(PC), AX\n", (1, 2)),
+    ("TEXT f(SB), 4, $-8-0\n", (1, 1)),
+    ("TEXT f(SB), 4, $0-0\nMOVQ \"a\", AX\n", (1, 2)),
+];
+
 #[test]
 fn forms_are_refused(rt: HostRuntime) -> Result<(), Fail> {
-    let rows: [(&[u8], (u32, u32)); 30] = [
-        (b"TEXT f(SB), 4, $0-0\nMOVQ AX,\n", (1, 2)),
-        (b"TEXT f(SB), 4, $0-0\n\nMOVQ 8(DX), AX\n", (1, 3)),
-        (b"TEXT f(SB), 4, $0-0\nMOVQ (AX)(BX*3), CX\n", (1, 2)),
-        (b"TEXT f(SB), 4, $0-0\nMOVQ $8(AX), CX\n", (1, 2)),
-        (b"TEXT f(SB), 4, $0-0\nRET\nend:\n", (1, 3)),
-        (b"TEXT f(SB), 4, $0-0\na: TEXT g(SB), 4, $0-0\n", (1, 2)),
-        (b"a: DATA x+0(SB)/8, $1\n", (1, 1)),
-        (b"TEXT f(SB), 4, $0-0\nLOCK\n", (1, 2)),
-        (b"TEXT f(SB), 4, $0-0\nLOCK\nLOCK\nRET\n", (1, 2)),
-        (b"TEXT f(SB), 4, $4-0\n", (1, 1)),
-        (b"TEXT f(SB), 516, $8-0\n", (1, 1)),
-        (b"TEXT f(SB), 4, $0x80000000-0\n", (1, 1)),
-        (b"TEXT f(SB), 4, $0-0x80000000\n", (1, 1)),
-        (b"TEXT f+0(SB), 4, $0-0\n", (1, 1)),
-        (b"TEXT f(SB), $0-0\n", (1, 1)),
-        (b"GLOBL x+0(SB), $8\n", (1, 1)),
-        (b"DATA x+0(SB)/3, $1\n", (1, 1)),
-        (b"DATA x+0(SB)/8, $\"1234567\"\n", (1, 1)),
-        (b"DATA x+0(SB)/4, $y(SB)\n", (1, 1)),
-        (b"DATA x+0x100000000(SB)/8, $1\n", (1, 1)),
-        (b"TEXT f(SB), 4, $0-0\nMOVD.WW AX, BX\n", (1, 2)),
-        (b"TEXT f(SB), 4, $0-0\n, AX\n", (1, 2)),
-        (b"TEXT f(SB), 4, $0-0\nMOVQ 1+, AX\n", (1, 2)),
-        (b"TEXT f(SB), 4, $0-0\nADD R1<<256, R2\n", (1, 2)),
-        (b"TEXT f(SB), 4, $0-0\nMOVQ x<>+0(FP), AX\n", (1, 2)),
-        (b"TEXT f(SB), 4, $0-0\nMOVQ (R1, DX), AX\n", (1, 2)),
-        (b"TEXT f(SB), 4, $0-0\nMOVQ 8(SB), AX\n", (1, 2)),
-        (b"TEXT f(SB), 4, $0-0\nMOVQ x(PC), AX\n", (1, 2)),
-        (b"TEXT f(SB), 4, $-8-0\n", (1, 1)),
-        (b"TEXT f(SB), 4, $0-0\nMOVQ \"a\", AX\n", (1, 2)),
-    ];
-    for (source, expected) in rows {
-        assert_eq!(rt; refused(rt.alloc(), source)?, expected);
+    for (source, expected) in NO_FORM {
+        assert_eq!(rt; refused(rt.alloc(), source.as_bytes())?, expected);
     }
     Ok(())
 }
 
+const REFUSED: [(&str, (u32, u32)); 45] = [
+    ("TEXT f(SB), 4, $0-0\na: RET\na: RET\n", (2, 3)),
+    ("TEXT f(SB), 4, $0-0\na: a: RET\n", (2, 2)),
+    ("TEXT f(SB), 4, $0-0\na:\nb:\na:\nRET\n", (2, 4)),
+    ("TEXT f(SB), 4, $0-0\na: LOCK; a: RET\n", (2, 2)),
+    (
+        "TEXT f(SB), 4, $0-0\na: RET\n\na: DATA x+0(SB)/8, $1\nRET\n",
+        (2, 4),
+    ),
+    ("TEXT f(SB), 4, $0-0\nJMP a\n", (3, 2)),
+    (
+        "TEXT f(SB), 4, $0-0\na: RET\nTEXT g(SB), 4, $0-0\nJMP a\n",
+        (3, 4),
+    ),
+    ("TEXT f(SB), 4, $0-0\nMOVQ DX, AX\n", (3, 2)),
+    ("TEXT f(SB), 4, $0-0\nMOVQ AX, SP\n", (3, 2)),
+    ("TEXT f(SB), 4, $0-0\nRET\nJMP 9(PC); JMP b\n", (8, 3)),
+    ("TEXT f(SB), 4, $0-0\nX 9(PC), b\n", (3, 2)),
+    ("TEXT f(SB), 4, $0-0\nMOVQ 8(FP), AX\n", (4, 2)),
+    ("TEXT f(SB), 4, $0-0\nMOVQ (FP), AX\n", (4, 2)),
+    ("TEXT f(SB), 4, $0-0\nMOVQ $8(FP), AX\n", (4, 2)),
+    ("TEXT f(SB), 4, $0-0\nRET\n\nLEAQ $(FP), AX\n", (4, 4)),
+    ("TEXT f(SB), 4, $0-0\nMOVQ -8(FP), $1/0\n", (4, 2)),
+    ("TEXT f(SB), 0, $0\n", (5, 1)),
+    ("TEXT f(SB), 1|2, $8\nRET\n", (5, 1)),
+    ("RET; TEXT f(SB), 0, $0\n", (9, 1)),
+    ("TEXT f(SB), 4, $0\nRET\nTEXT g(SB), 0, $0\n", (5, 3)),
+    ("TEXT f<>(SB), 512, $0\n", (5, 1)),
+    ("DATA x+8(SB)/8, $1\nDATA x+8(SB)/8, $1\n", (6, 2)),
+    (
+        "DATA x+8(SB)/8, $1\nDATA y+0(SB)/8, $1\nDATA x+0(SB)/8, $1\n",
+        (6, 3),
+    ),
+    ("DATA x<>+8(SB)/8, $1\nDATA x<>+4(SB)/8, $1\n", (6, 2)),
+    ("DATA ·x+8(SB)/8, $1\nDATA main·x+8(SB)/8, $1\n", (6, 2)),
+    ("DATA x+8(SB)/8, $1\nDATA x+0(SB)/8, $1/0\n", (6, 2)),
+    ("TEXT f(SB), 4, $0-0\nMOVQ $1/0, AX\n", (7, 2)),
+    ("TEXT f(SB), 4, $0-0\nMOVQ $5%(1-1), AX\n", (7, 2)),
+    ("DATA x+0(SB)/8, $2/0\n", (7, 1)),
+    ("GLOBL x(SB), 1/0, $8\n", (7, 1)),
+    ("TEXT f(SB), 4, $0-0\nBYTE $1/0\n", (7, 2)),
+    ("TEXT f(SB), 4, $0-0\nJMP 1(PC)\n", (8, 2)),
+    ("TEXT f(SB), 4, $0-0\nJMP -1(PC)\n", (8, 2)),
+    (
+        "TEXT f(SB), 4, $0-0\nJMP 1(PC)\nPCDATA $0, $1\nRET\n",
+        (8, 2),
+    ),
+    ("TEXT f(SB), 4, $0-0\nJMP 2(PC)\nLOCK\nRET\n", (8, 2)),
+    ("TEXT f(SB), 4, $0-0\nLOCK\nJMP 0(PC)\n", (8, 3)),
+    ("RET\n", (9, 1)),
+    ("\nLOCK\nRET\n", (9, 2)),
+    ("DATA x+0(SB)/8, $1\nMOVQ 8(FP), AX\n", (4, 2)),
+    ("DATA x+0(SB)/8, $1\nBYTE $1\n", (9, 2)),
+    ("TEXT f(SB), 4, $0-0\nBYTE $0x90\n", (10, 2)),
+    ("TEXT f(SB), 4, $0-0\nRET\nWORD $1\n", (10, 3)),
+    ("TEXT f(SB), 4, $0-0\nLONG $1, $2\n", (10, 2)),
+    ("TEXT f(SB), 4, $0-0\nJMP b\nQUAD $1\n", (10, 3)),
+    ("TEXT f(SB), 4, $0-0\nJMP 7(PC)\na: BYTE\n", (10, 3)),
+];
+
 #[test]
 fn refusals_have_their_lines(rt: HostRuntime) -> Result<(), Fail> {
-    let rows: [(&[u8], (u32, u32)); 45] = [
-        (b"TEXT f(SB), 4, $0-0\na: RET\na: RET\n", (2, 3)),
-        (b"TEXT f(SB), 4, $0-0\na: a: RET\n", (2, 2)),
-        (b"TEXT f(SB), 4, $0-0\na:\nb:\na:\nRET\n", (2, 4)),
-        (b"TEXT f(SB), 4, $0-0\na: LOCK; a: RET\n", (2, 2)),
-        (b"TEXT f(SB), 4, $0-0\na: RET\n\na: DATA x+0(SB)/8, $1\nRET\n", (2, 4)),
-        (b"TEXT f(SB), 4, $0-0\nJMP a\n", (3, 2)),
-        (b"TEXT f(SB), 4, $0-0\na: RET\nTEXT g(SB), 4, $0-0\nJMP a\n", (3, 4)),
-        (b"TEXT f(SB), 4, $0-0\nMOVQ DX, AX\n", (3, 2)),
-        (b"TEXT f(SB), 4, $0-0\nMOVQ AX, SP\n", (3, 2)),
-        (b"TEXT f(SB), 4, $0-0\nRET\nJMP 9(PC); JMP b\n", (8, 3)),
-        (b"TEXT f(SB), 4, $0-0\nX 9(PC), b\n", (3, 2)),
-        (b"TEXT f(SB), 4, $0-0\nMOVQ 8(FP), AX\n", (4, 2)),
-        (b"TEXT f(SB), 4, $0-0\nMOVQ (FP), AX\n", (4, 2)),
-        (b"TEXT f(SB), 4, $0-0\nMOVQ $8(FP), AX\n", (4, 2)),
-        (b"TEXT f(SB), 4, $0-0\nRET\n\nLEAQ $(FP), AX\n", (4, 4)),
-        (b"TEXT f(SB), 4, $0-0\nMOVQ -8(FP), $1/0\n", (4, 2)),
-        (b"TEXT f(SB), 0, $0\n", (5, 1)),
-        (b"TEXT f(SB), 1|2, $8\nRET\n", (5, 1)),
-        (b"RET; TEXT f(SB), 0, $0\n", (9, 1)),
-        (b"TEXT f(SB), 4, $0\nRET\nTEXT g(SB), 0, $0\n", (5, 3)),
-        (b"TEXT f<>(SB), 512, $0\n", (5, 1)),
-        (b"DATA x+8(SB)/8, $1\nDATA x+8(SB)/8, $1\n", (6, 2)),
-        (b"DATA x+8(SB)/8, $1\nDATA y+0(SB)/8, $1\nDATA x+0(SB)/8, $1\n", (6, 3)),
-        (b"DATA x<>+8(SB)/8, $1\nDATA x<>+4(SB)/8, $1\n", (6, 2)),
-        ("DATA ·x+8(SB)/8, $1\nDATA main·x+8(SB)/8, $1\n".as_bytes(), (6, 2)),
-        (b"DATA x+8(SB)/8, $1\nDATA x+0(SB)/8, $1/0\n", (6, 2)),
-        (b"TEXT f(SB), 4, $0-0\nMOVQ $1/0, AX\n", (7, 2)),
-        (b"TEXT f(SB), 4, $0-0\nMOVQ $5%(1-1), AX\n", (7, 2)),
-        (b"DATA x+0(SB)/8, $2/0\n", (7, 1)),
-        (b"GLOBL x(SB), 1/0, $8\n", (7, 1)),
-        (b"TEXT f(SB), 4, $0-0\nBYTE $1/0\n", (7, 2)),
-        (b"TEXT f(SB), 4, $0-0\nJMP 1(PC)\n", (8, 2)),
-        (b"TEXT f(SB), 4, $0-0\nJMP -1(PC)\n", (8, 2)),
-        (b"TEXT f(SB), 4, $0-0\nJMP 1(PC)\nPCDATA $0, $1\nRET\n", (8, 2)),
-        (b"TEXT f(SB), 4, $0-0\nJMP 2(PC)\nLOCK\nRET\n", (8, 2)),
-        (b"TEXT f(SB), 4, $0-0\nLOCK\nJMP 0(PC)\n", (8, 3)),
-        (b"RET\n", (9, 1)),
-        (b"\nLOCK\nRET\n", (9, 2)),
-        (b"DATA x+0(SB)/8, $1\nMOVQ 8(FP), AX\n", (4, 2)),
-        (b"DATA x+0(SB)/8, $1\nBYTE $1\n", (9, 2)),
-        (b"TEXT f(SB), 4, $0-0\nBYTE $0x90\n", (10, 2)),
-        (b"TEXT f(SB), 4, $0-0\nRET\nWORD $1\n", (10, 3)),
-        (b"TEXT f(SB), 4, $0-0\nLONG $1, $2\n", (10, 2)),
-        (b"TEXT f(SB), 4, $0-0\nJMP b\nQUAD $1\n", (10, 3)),
-        (b"TEXT f(SB), 4, $0-0\nJMP 7(PC)\na: BYTE\n", (10, 3)),
-    ];
-    for (source, expected) in rows {
-        assert_eq!(rt; refused(rt.alloc(), source)?, expected);
+    for (source, expected) in REFUSED {
+        assert_eq!(rt; refused(rt.alloc(), source.as_bytes())?, expected);
     }
     Ok(())
 }
@@ -151,8 +165,18 @@ fn described(operand: &Operand) -> (u32, i64, i64, &[u8]) {
             None => (2, *off, 0, base.as_slice()),
             Some((name, scale)) => (2, *off, i64::from(*scale), name.as_slice()),
         },
-        Operand::Sym { sym, off, address } => (3 + 10 * u32::from(*address), *off, i64::from(*sym), b""),
-        Operand::Arg { name, off, address } => (4 + 10 * u32::from(*address), *off, 0, name.as_slice()),
+        Operand::Sym { sym, off, address } => (
+            3 + 10 * u32::from(*address),
+            *off,
+            i64::from(*sym),
+            b"",
+        ),
+        Operand::Arg { name, off, address } => (
+            4 + 10 * u32::from(*address),
+            *off,
+            0,
+            name.as_slice(),
+        ),
         Operand::Auto { off, address } => (5 + 10 * u32::from(*address), *off, 0, b""),
         Operand::Label(statement) => (6, i64::from(*statement), 0, b""),
         Operand::Pair(_, second) => (7, 0, 0, second.as_slice()),
@@ -162,50 +186,51 @@ fn described(operand: &Operand) -> (u32, i64, i64, &[u8]) {
     }
 }
 
+const OPERANDS: [(&str, (u32, i64, i64, &str)); 36] = [
+    ("$7", (0, 7, 0, "")),
+    ("$1+2*3", (0, 7, 0, "")),
+    ("$8-2-1", (0, 5, 0, "")),
+    ("$(1+2)*3", (0, 9, 0, "")),
+    ("$1|2<<2", (0, 9, 0, "")),
+    ("$-1", (0, -1, 0, "")),
+    ("$-~0", (0, 1, 0, "")),
+    ("$0-1>>63", (0, 0, 0, "")),
+    ("$1<<64", (0, 0, 0, "")),
+    ("AX", (1, 0, 0, "AX")),
+    ("(AX)", (2, 0, 0, "AX")),
+    ("-8(BX)", (2, -8, 0, "BX")),
+    ("16(SP)", (2, 16, 0, "SP")),
+    ("8(AX)(CX*4)", (2, 8, 4, "CX")),
+    ("(AX)(CX*0x8)", (2, 0, 8, "CX")),
+    ("g(SB)", (3, 0, 1, "")),
+    ("f+8(SB)", (3, 8, 0, "")),
+    ("f<>+8(SB)", (3, 8, 1, "")),
+    ("$g-4(SB)", (13, -4, 1, "")),
+    ("x+8(FP)", (4, 8, 0, "x")),
+    ("x(FP)", (4, 0, 0, "x")),
+    ("$x+0(FP)", (14, 0, 0, "x")),
+    ("a·b+0(FP)", (4, 0, 0, "a.b")),
+    ("tmp-8(SP)", (5, -8, 0, "")),
+    ("$tmp-8(SP)", (15, -8, 0, "")),
+    ("x-8/2(SP)", (5, 0x7FFF_FFFF_FFFF_FFFC, 0, "")),
+    ("a", (6, 0, 0, "")),
+    ("end", (6, 2, 0, "")),
+    ("0(PC)", (6, 0, 0, "")),
+    ("1(PC)", (6, 1, 0, "")),
+    ("2-1(PC)", (6, 1, 0, "")),
+    ("(R1, R2)", (7, 0, 0, "R2")),
+    ("R1<<3", (8, 0, 3, "R1")),
+    ("R1>>63", (8, 1, 63, "R1")),
+    ("R1->2+3", (8, 2, 5, "R1")),
+    ("BX", (1, 0, 0, "BX")),
+];
+
 #[test]
 fn operands_have_their_forms(rt: HostRuntime) -> Result<(), Fail> {
-    let rows: [(&[u8], (u32, i64, i64, &[u8])); 36] = [
-        (b"$7", (0, 7, 0, b"")),
-        (b"$1+2*3", (0, 7, 0, b"")),
-        (b"$8-2-1", (0, 5, 0, b"")),
-        (b"$(1+2)*3", (0, 9, 0, b"")),
-        (b"$1|2<<2", (0, 9, 0, b"")),
-        (b"$-1", (0, -1, 0, b"")),
-        (b"$-~0", (0, 1, 0, b"")),
-        (b"$0-1>>63", (0, 0, 0, b"")),
-        (b"$1<<64", (0, 0, 0, b"")),
-        (b"AX", (1, 0, 0, b"AX")),
-        (b"(AX)", (2, 0, 0, b"AX")),
-        (b"-8(BX)", (2, -8, 0, b"BX")),
-        (b"16(SP)", (2, 16, 0, b"SP")),
-        (b"8(AX)(CX*4)", (2, 8, 4, b"CX")),
-        (b"(AX)(CX*0x8)", (2, 0, 8, b"CX")),
-        (b"g(SB)", (3, 0, 1, b"")),
-        (b"f+8(SB)", (3, 8, 0, b"")),
-        (b"f<>+8(SB)", (3, 8, 1, b"")),
-        (b"$g-4(SB)", (13, -4, 1, b"")),
-        (b"x+8(FP)", (4, 8, 0, b"x")),
-        (b"x(FP)", (4, 0, 0, b"x")),
-        (b"$x+0(FP)", (14, 0, 0, b"x")),
-        ("a·b+0(FP)".as_bytes(), (4, 0, 0, b"a.b")),
-        (b"tmp-8(SP)", (5, -8, 0, b"")),
-        (b"$tmp-8(SP)", (15, -8, 0, b"")),
-        (b"x-8/2(SP)", (5, 0x7FFF_FFFF_FFFF_FFFC, 0, b"")),
-        (b"a", (6, 0, 0, b"")),
-        (b"end", (6, 2, 0, b"")),
-        (b"0(PC)", (6, 0, 0, b"")),
-        (b"1(PC)", (6, 1, 0, b"")),
-        (b"2-1(PC)", (6, 1, 0, b"")),
-        (b"(R1, R2)", (7, 0, 0, b"R2")),
-        (b"R1<<3", (8, 0, 3, b"R1")),
-        (b"R1>>63", (8, 1, 63, b"R1")),
-        (b"R1->2+3", (8, 2, 5, b"R1")),
-        (b"BX", (1, 0, 0, b"BX")),
-    ];
-    for (operand, expected) in rows {
+    for (operand, expected) in OPERANDS {
         let mut source = Vec::new(rt.alloc());
         source.extend_from_slice(b"TEXT f(SB), 4, $0-0\na: X ")?;
-        source.extend_from_slice(operand)?;
+        source.extend_from_slice(operand.as_bytes())?;
         source.extend_from_slice(b"\nBX: Y\nend: LOCK\nZ\n")?;
         let unit = parsed(rt.alloc(), source.as_slice())??;
         match unit.functions.as_slice() {
@@ -213,7 +238,7 @@ fn operands_have_their_forms(rt: HostRuntime) -> Result<(), Fail> {
                 [first, second, third] => {
                     assert_eq!(rt; (first.lock, second.lock, third.lock), (false, false, true));
                     match first.operands.as_slice() {
-                        [operand] => assert_eq!(rt; described(operand), expected),
+                        [operand] => assert!(rt; is_described(operand, expected)),
                         _ => assert!(rt; false),
                     }
                 }
@@ -225,19 +250,36 @@ fn operands_have_their_forms(rt: HostRuntime) -> Result<(), Fail> {
     Ok(())
 }
 
+// Whether an operand is described so.
+fn is_described(operand: &Operand, expected: (u32, i64, i64, &str)) -> bool {
+    let (form, first, second, name) = described(operand);
+    (form, first, second) == (expected.0, expected.1, expected.2) && name == expected.3.as_bytes()
+}
+
 #[test]
 fn a_unit_has_its_symbols_and_data(rt: HostRuntime) -> Result<(), Fail> {
     let unit = parsed(
         rt.alloc(),
-        "TEXT ·f(SB), 4|512, $0-24\nMOVD.W main·f(SB), t<>(SB)\nDATA t<>+0(SB)/4, $0x123456789\nDATA t<>+4(SB)/2, $\"\\x41\\n\"\nDATA t<>+8(SB)/8, $·f+4(SB)\nGLOBL t<>(SB), 8|16, $2*8\nGLOBL u(SB), $4\nTEXT u∕v(SB), 0, $16-0\n"
-            .as_bytes(),
+        "TEXT ·f(SB), 4|512, $0-24\nMOVD.W main·f(SB), t<>(SB)\nDATA t<>+0(SB)/4, $0x123456789\nDATA t<>+4(SB)/2, $\"\\x41\\n\"\nDATA t<>+8(SB)/8, $·f+4(SB)\nGLOBL t<>(SB), 8|16, $2*8\nGLOBL u(SB), $4\nTEXT u∕v(SB), 0, $16-0\n".as_bytes(),
     )??;
     let names = unit.symbols.as_slice();
     assert_eq!(rt; names.len(), 4);
-    assert_eq!(rt; (names[0].name.as_slice(), names[0].fixed), (b"main.f".as_slice(), false));
-    assert_eq!(rt; (names[1].name.as_slice(), names[1].fixed), (b"t".as_slice(), true));
-    assert_eq!(rt; (names[2].name.as_slice(), names[2].fixed), (b"u".as_slice(), false));
-    assert_eq!(rt; (names[3].name.as_slice(), names[3].fixed), (b"u/v".as_slice(), false));
+    assert_eq!(rt;
+        (names[0].name.as_slice(), names[0].fixed),
+        (b"main.f".as_slice(), false)
+    );
+    assert_eq!(rt;
+        (names[1].name.as_slice(), names[1].fixed),
+        (b"t".as_slice(), true)
+    );
+    assert_eq!(rt;
+        (names[2].name.as_slice(), names[2].fixed),
+        (b"u".as_slice(), false)
+    );
+    assert_eq!(rt;
+        (names[3].name.as_slice(), names[3].fixed),
+        (b"u/v".as_slice(), false)
+    );
     match unit.values.as_slice() {
         [first, second, third] => {
             assert_eq!(rt; (first.sym, first.off, first.pos.line), (1, 0, 3));
@@ -256,8 +298,14 @@ fn a_unit_has_its_symbols_and_data(rt: HostRuntime) -> Result<(), Fail> {
     }
     match unit.functions.as_slice() {
         [first, second] => {
-            assert_eq!(rt; (first.sym, first.flags, first.locals, first.args), (0, 516, 0, Some(24)));
-            assert_eq!(rt; (second.sym, second.locals, second.args, second.pos.line), (3, 16, Some(0), 8));
+            assert_eq!(rt;
+                (first.sym, first.flags, first.locals, first.args),
+                (0, 516, 0, Some(24))
+            );
+            assert_eq!(rt;
+                (second.sym, second.locals, second.args, second.pos.line),
+                (3, 16, Some(0), 8)
+            );
             match first.stmts.as_slice() {
                 [only] => assert_eq!(rt; only.suffix, Some(b'W')),
                 _ => assert!(rt; false),

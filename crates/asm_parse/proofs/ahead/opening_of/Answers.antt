@@ -1,5 +1,4 @@
-use Rattle.std.proofs.Common.{◌≡◌, true, false, sym, ap, ◌∙◌}
-use Rattle.asm_grammar.specs.Reader.{is_empty}
+use Rattle.std.proofs.Common.{◌≡◌, sym, ap, ◌∙◌}
 use Rattle.asm_parse.specs.Ahead.{after_labels, opening_at}
 use Rattle.asm_parse.proofs.AheadLemmas.{eaten, left, opening_aside, opening_word, opening_other}
 use Rattle.asm_parse.proofs.ahead.opening_of.Goals as goal

@@ -1,7 +1,6 @@
-use Rattle.std.proofs.Common.{◌≡◌, Bool, false, Err, refl, sym, ◌∙◌}
+use Rattle.std.proofs.Common.{◌≡◌, false, refl, sym, ◌∙◌}
 use Rattle.std.proofs.lemmas.Result.{err_from_is_err_and}
-use Rattle.asm_parse.specs.Refusals.{◌>>=◌, traversed}
-use Rattle.asm_parse.specs.Resolve.{statement_of, has_unknown, operand_of}
+use Rattle.asm_parse.specs.Resolve.{statement_of, has_unknown}
 use Rattle.asm_parse.proofs.resolve.statement_of.Goals as goal
 
 pub returns-in_err-operands : goal.returns-in_err-operands

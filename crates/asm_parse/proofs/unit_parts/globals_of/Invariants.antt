@@ -1,5 +1,4 @@
-use Rattle.std.proofs.Common.{◌≡◌, ℕ, Bool, List, drop}
-use Rattle.asm_parse.specs.Words.{Tells}
+use Rattle.std.proofs.Common.{◌≡◌, drop}
 use Rattle.asm_parse.specs.Refusals.{traversed}
 use Rattle.asm_parse.specs.Parse.{global_of}
 use Rattle.asm_parse.proofs.Loops.{with_front}

@@ -1,4 +1,4 @@
-use Rattle.std.proofs.Common.{◌≡◌, Bool, List, ℕ, ap, ◌∙◌, sym, arith}
+use Rattle.std.proofs.Common.{Bool, ap, ◌∙◌, sym, arith}
 use Rattle.std.specs.Prelude.{◌&&◌}
 use Rattle.asm_parse.specs.Lines.{Gathered, labelled, are_new}
 use Rattle.asm_parse.proofs.Loops.{goes_on, is_done}

@@ -1,4 +1,4 @@
-use Rattle.std.proofs.Common.{not, ap, ◌∙◌}
+use Rattle.std.proofs.Common.{not, ap}
 use Rattle.asm_parse.proofs.NumberingLemmas.{seen_any, seen_place, seen_with}
 use Rattle.asm_parse.proofs.numbering.Numbering.add.Goals as goal
 

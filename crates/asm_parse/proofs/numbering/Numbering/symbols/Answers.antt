@@ -1,6 +1,5 @@
-use Rattle.std.proofs.Common.{◌≡◌, List, ℕ, ap, ◌∙◌}
-use Rattle.std.specs.Prelude.{slice_get, Some}
-use Rattle.asm_parse.specs.declared.unit.Symbol.{Symbol}
+use Rattle.std.proofs.Common.{List, ℕ, ap, ◌∙◌}
+use Rattle.std.specs.Prelude.{slice_get}
 use Rattle.asm_parse.proofs.NumberingLemmas.{symbol_turn}
 use Rattle.asm_parse.proofs.numbering.Numbering.symbols.Goals as goal
 
