@@ -1,9 +1,9 @@
-ghost use Rattle.std.specs.Prelude.{◌≡◌, ◌≤◌, length, drop, IfOk};
+ghost use Rattle.std.specs.Prelude.{IfOk};
 ghost use Rattle.text_dis.specs.Raw.{IsRaw};
 
 use crate::line::push_line;
 use asm_target::Processor;
-use goasm_base::{Bytes, Memory, Text};
+use goasm_base::{Bytes, Memory, Text, behind};
 use std::alloc::Global;
 
 /// The text of machine code that stands at address 0.
@@ -23,12 +23,4 @@ pub fn raw<T: Processor>(alloc: Global, bytes: &[u8]) -> Result<Bytes, Memory>
         rest = behind(rest, len);
     }
     Ok(text.finish())
-}
-
-// The bytes from a place on.
-fn behind(bytes: &[u8], at: usize) -> &[u8]
-    requires { at ≤ length bytes.now }
-    ensures { result.now ≡ drop at bytes.now }
-{
-    &bytes[at..]
 }
