@@ -1,6 +1,6 @@
 use Rattle.std.proofs.lemmas.Result.{IfOk-weaker}
 use Rattle.amd64_code.specs.First.{first_in}
-use Rattle.amd64_code.specs.FirstLaws.{first_found, first_none}
+use Rattle.amd64_code.proofs.FirstLaws.{first_found, first_none}
 use Rattle.goasm_run.proofs.commands.bytes.amd64_text.Goals as goal
 
 pub returns : goal.returns
