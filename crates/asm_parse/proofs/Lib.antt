@@ -3,3 +3,6 @@ pub mod NumberingLemmas
 pub mod AheadLemmas
 pub mod LabelLemmas
 pub mod ReadLemmas
+pub mod SymbolLemmas
+pub mod KnownLemmas
+pub mod TotalLemmas

@@ -1,4 +1,4 @@
 use Rattle.asm_parse.proofs.resolve.operand_of.Goals as goal
 
-pub returns-in-Bare : goal.returns-in-Bare
-returns-in-Bare g c = λ word tells. rw c.in-Bare.is (c.bare.ensures word tells)
+pub returns-in-Bare-clause-exact : goal.returns-in-Bare-clause-exact
+returns-in-Bare-clause-exact g c = λ word tells. rw c.in-Bare.is (c.bare.ensures.exact word tells)
