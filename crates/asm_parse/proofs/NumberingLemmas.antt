@@ -58,10 +58,10 @@ symbol_turn keys n m key items after made e m-is items-is after-is made-is =
 -- what stands in a list has a place there
 any_within : {X : Type 0} (p : X → Bool) (xs : List X) → list_any p xs ≡ true → position_or_len p xs < length xs
 any_within p [] there = absurd cc
-any_within p (x ∷ xs) there = by (p x) refl there where
-  by : (found : Bool) → p x ≡ found → (found || list_any p xs) ≡ true → position_or_len p (x ∷ xs) < length (x ∷ xs)
-  by true is there = rw is (omega arith)
-  by false is there = rw is (omega (arith, any_within p xs there))
+any_within p (x ∷ xs) there = by (any_within p xs) (p x) refl there where
+  by : (list_any p xs ≡ true → position_or_len p xs < length xs) → (found : Bool) → p x ≡ found → (found || list_any p xs) ≡ true → position_or_len p (x ∷ xs) < length (x ∷ xs)
+  by rest true is there = rw is (omega arith)
+  by rest false is there = rw is (omega (arith, rest there))
 
 pub there_within : (names : List Key) (key : Key) → has_name names key ≡ true → place_of names key < length names
 there_within names key there = any_within (is_same key) names there

@@ -17,14 +17,14 @@ one_more token (part ∷ parts) = omega (arith, sum_by-cons length (token ∷ pa
 -- no token stands in two statements
 pub total_within : (tokens : List Token) → sum_by length (statements_of tokens) ≤ length tokens
 total_within [] = omega arith
-total_within (token ∷ tokens) = by (is_end token) refl where
-  by : (ended : Bool) → is_end token ≡ ended → sum_by length (statements_of (token ∷ tokens)) ≤ length (token ∷ tokens)
-  by true is =
+total_within (token ∷ tokens) = by (total_within tokens) (is_end token) refl where
+  by : sum_by length (statements_of tokens) ≤ length tokens → (ended : Bool) → is_end token ≡ ended → sum_by length (statements_of (token ∷ tokens)) ≤ length (token ∷ tokens)
+  by rest true is =
       let cut = slice_split-cons_yes is_end token tokens is in
-      rw cut (omega (arith, sum_by-cons length [] (slice_split is_end tokens), total_within tokens))
-  by false is =
+      rw cut (omega (arith, sum_by-cons length [] (slice_split is_end tokens), rest))
+  by rest false is =
       let cut = slice_split-cons_no is_end token tokens is in
-      rw cut (omega (arith, one_more token (slice_split is_end tokens), total_within tokens))
+      rw cut (omega (arith, one_more token (slice_split is_end tokens), rest))
 
 module _ (statements : List (Bor (List Token))) (at : ℕ) where
   -- one more of them

@@ -130,8 +130,8 @@ is_disordered front _ = false
 -- What is refused of a statement.
 
 abbrev pub when : Bool → ParseNo → List ParseNo
-when true no = no ∷ []
-when false no = []
+when true refused = refused ∷ []
+when false refused = []
 
 abbrev pub refused_in : (List ℕ → Bool) → List (List Token) → Outlook → Pos → Option Read → List ParseNo
 refused_in word front outlook pos None = P1 pos ∷ []
@@ -150,7 +150,7 @@ refused_at word front (token ∷ tokens) behind =
     refused_in word front (outlook_of (token ∷ tokens) behind) token.pos (said (token ∷ tokens))
 
 abbrev pub placed : ℕ → ParseNo → Refused
-placed place no = record { place = place; no = no }
+placed place refused = record { place = place; no = refused }
 
 -- all that is refused of statements, behind those before them
 unfoldable pub refused_from : (List ℕ → Bool) → List (List Token) → List (List Token) → List Refused

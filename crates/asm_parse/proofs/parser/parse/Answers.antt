@@ -1,7 +1,10 @@
-use Rattle.std.proofs.Common.{◌≡◌, ap, ◌∙◌}
+use Rattle.std.proofs.Common.{◌≡◌, ◌≤◌, length, ap, ◌∙◌, arith}
+use Rattle.std.specs.Prelude.{sum_by}
 use Rattle.std.proofs.lemmas.Result.{err_from_is_err_and}
 use Rattle.asm_parse.specs.Ahead.{seen}
 use Rattle.asm_parse.specs.Parse.{statements_of}
+use Rattle.asm_parse.proofs.KnownLemmas.{known_more}
+use Rattle.asm_parse.proofs.TotalLemmas.{total_within}
 use Rattle.asm_parse.proofs.ReadLemmas.{parsed_stops, parsed_on}
 use Rattle.asm_parse.proofs.parser.parse.Goals as goal
 
@@ -15,3 +18,10 @@ pub returns-clause-exact : goal.returns-clause-exact
 returns-clause-exact g c =
     let cut : seen c.as_slice-2.result.now ≡ statements_of c.args.tokens.now.list = ap seen c.as_slice-2.ensures.value ∙ c.in_ok-statements.ensures ∙ ap statements_of c.as_slice.ensures in
     λ word tells. rw (parsed_on word c.args.tokens.now.list (seen c.as_slice-2.result.now) c.in_ok-progress.progress cut (c.in_ok-progress.ensures.exact word tells)) (c.resolved.ensures.exact word tells)
+
+pub resolved-requires-clause-known : goal.resolved-requires-clause-known
+resolved-requires-clause-known g c =
+    let total = sum_by length (seen c.as_slice-2.result.now) in
+    let cut : seen c.as_slice-2.result.now ≡ statements_of c.args.tokens.now.list = ap seen c.as_slice-2.ensures.value ∙ c.in_ok-statements.ensures ∙ ap statements_of c.as_slice.ensures in
+    let few : total ≤ 4_000_000 = rw cut (omega (arith, total_within c.args.tokens.now.list, c.requires.few)) in
+    known_more total 4_000_000 c.in_ok-progress.progress few c.in_ok-progress.ensures.known

@@ -1,6 +1,7 @@
-use Rattle.std.proofs.Common.{[], ◌∷◌, ◌++◌, Err, sym, ◌∙◌, arith}
+use Rattle.std.proofs.Common.{[], ◌∷◌, ◌++◌, Err, length, sym, ◌∙◌, arith}
 use Rattle.std.proofs.lemmas.Result.{err_from_is_err_and}
 use Rattle.std.proofs.lemmas.List.Elements.{All-push, All-same}
+use Rattle.goasm_base.specs.Statements.{IsValidFunction}
 use Rattle.asm_parse.specs.Refusals.{traversed}
 use Rattle.asm_parse.specs.Resolve.{function_of}
 use Rattle.asm_parse.proofs.Loops.{with_front, goes_on, is_done, stops, turn, refused_turn, ends}
@@ -16,7 +17,7 @@ pub loop-body-preserved : goal.loop-body-preserved
 loop-body-preserved g c = record {
   so_far = λ word tells. goes_on (with_front (function_of word c.args.symbols.now)) c.args.bodies.now c.loop-body.body-index (traversed (function_of word c.args.symbols.now) c.args.bodies.now) c.loop-body.functions.items c.push.new.self.items c.body-item.result (c.loop-body.invariant.so_far word tells) c.loop-body-test.true c.body-item.is
     (turn (function_of word c.args.symbols.now) c.loop-body.functions.items c.push.new.self.items c.body-item.result c.in_ok-function.function (c.in_ok-function.ensures.exact word tells) c.in_ok-push.ensures.items);
-  valid = All-same _ c.push.new.self.items (c.loop-body.functions.items ++ c.in_ok-function.function ∷ []) c.in_ok-push.ensures.items (All-push _ c.loop-body.functions.items c.in_ok-function.function c.loop-body.invariant.valid c.in_ok-function.ensures.valid);
+  valid = All-same (IsValidFunction (length c.args.symbols.now)) c.push.new.self.items (c.loop-body.functions.items ++ c.in_ok-function.function ∷ []) c.in_ok-push.ensures.items (All-push (IsValidFunction (length c.args.symbols.now)) c.loop-body.functions.items c.in_ok-function.function c.loop-body.invariant.valid c.in_ok-function.ensures.valid);
 }
 
 pub returns-clause-exact : goal.returns-clause-exact
