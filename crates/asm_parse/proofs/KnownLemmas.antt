@@ -94,7 +94,7 @@ ended_by_known tokens state (Some head) is known =
 pub ended_known : (tokens : ℕ) (state : State) → IsKnown tokens state → IsKnown tokens (ended state)
 ended_known tokens state known = ended_by_known tokens state state.head refl known
 
-ended_lines : (state : State) (head : Option Head) → (ended_by state head).lines ≡ none_yet
+pub ended_lines : (state : State) (head : Option Head) → (ended_by state head).lines ≡ none_yet
 ended_lines state None = refl
 ended_lines state (Some head) = refl
 
@@ -113,7 +113,7 @@ begun_from before after state pos line within sizes empty known =
       globals = named.globals;
     }
 
-abbrev after_code : State → Pos → CodeLine → State
+abbrev pub after_code : State → Pos → CodeLine → State
 after_code named pos code = record named { lines = with_line named.lines pos named.locked code; locked = false }
 
 code_from : (before after : ℕ) (state : State) (symbols : List Key) (pos : Pos) (code : CodeLine) → ((key : Key) → has_name state.symbols key ≡ true → has_name symbols key ≡ true)
@@ -130,7 +130,7 @@ code_from before after state symbols pos code keeps few within operands known =
       globals = globals_grown state.symbols symbols keeps state.globals known.globals;
     }
 
-abbrev after_data : State → State → Pos → DataLine → State
+abbrev pub after_data : State → State → Pos → DataLine → State
 after_data state named pos line = record named {
   offsets = insert_entry nat_eq state.offsets (number_in state line) line.off;
   values = state.values ++ record { pos = pos; line = line } ∷ [];

@@ -6,3 +6,8 @@ pub mod ReadLemmas
 pub mod SymbolLemmas
 pub mod KnownLemmas
 pub mod TotalLemmas
+pub mod FirstLists
+pub mod FirstLabels
+pub mod FirstData
+pub mod FirstLemmas
+pub mod FirstNames

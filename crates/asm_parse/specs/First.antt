@@ -34,7 +34,7 @@ pub record Refused : Type 0 where
   pub place : ℕ
   pub no : ParseNo
 
--- the number that a refusal is printed with
+-- the number that a refusal is printed with; want of memory is none, and has the last one
 abbrev pub number : ParseNo → ℕ
 number (P1 pos) = 1
 number (P2 pos) = 2
@@ -46,7 +46,7 @@ number (P7 pos) = 7
 number (P8 pos) = 8
 number (P9 pos) = 9
 number (P10 pos) = 10
-number Memory = 0
+number Memory = 11
 
 abbrev pub place_of : Refused → ℕ
 place_of refused = refused.place

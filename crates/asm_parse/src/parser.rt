@@ -6,6 +6,8 @@ ghost use Rattle.asm_parse.specs.Parse as spec;
 ghost use Rattle.asm_parse.specs.Words.{IsAskable, Tells};
 ghost use Rattle.asm_parse.specs.Known.{IsKnown};
 ghost use Rattle.asm_parse.specs.Valid.{IsValidUnit};
+ghost use Rattle.asm_parse.specs.First.{refusal_of};
+ghost use Rattle.goasm_base.specs.Refusals.{Judges};
 
 use crate::ahead::{Opening, Outlook, outlooks};
 use crate::parse_no::ParseNo;
@@ -30,6 +32,7 @@ pub fn parse<W: Fn(&[u8]) -> bool>(
     requires few { length tokens.now.list ≤ 4_000_000 }
     ensures exact { (word : List ℕ → Bool) → Tells (W.post is_word) word → Gives (spec.parsed word tokens.now.list) result }
     ensures valid { IfOk result IsValidUnit }
+    ensures first { (word : List ℕ → Bool) → Tells (W.post is_word) word → Judges ParseNo.Memory result (refusal_of word tokens.now.list) }
 {
     let statements = statements_in(alloc, tokens.list.as_slice())?;
     let progress = read_all(alloc, statements.as_slice(), &is_word)?;
