@@ -18,6 +18,10 @@ abbrev pub HasSizes : Form → Type 0
 HasSizes (Text line) = directives.IsSized line
 HasSizes _ = Unit {0}
 
+abbrev pub operand_count : Form → ℕ
+operand_count (Code line) = length line.operands
+operand_count _ = 0
+
 abbrev pub with_label : List (List ℕ) → List ℕ → Reader (List (List ℕ))
 with_label before label = pure (before ++ label ∷ [])
 

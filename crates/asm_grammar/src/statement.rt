@@ -1,4 +1,4 @@
-ghost use Rattle.std.specs.Prelude.{◌≡◌, IfOk};
+ghost use Rattle.std.specs.Prelude.{◌≡◌, ◌+◌, ◌≤◌, length, IfOk};
 ghost use Rattle.asm_grammar.specs.Reader.{Reads};
 ghost use Rattle.asm_grammar.specs.Statements as spec;
 
@@ -46,6 +46,7 @@ pub struct CodeLine<'a> {
 pub fn read_statement<'a>(alloc: Global, reader: &mut Reader<'a>) -> Result<Statement<'a>, Stop>
     ensures read { Reads spec.statement reader.old result reader.new }
     ensures sized { IfOk result (λ statement. spec.HasSizes statement.form) }
+    ensures few { IfOk result (λ statement. spec.operand_count statement.form ≤ length reader.old.rest + 1) }
 {
     let labels = read_labels(alloc, reader)?;
     let form = read_form(alloc, reader)?;
@@ -70,6 +71,7 @@ fn read_labels<'a>(alloc: Global, reader: &mut Reader<'a>) -> Result<List<Word<'
 fn read_form<'a>(alloc: Global, reader: &mut Reader<'a>) -> Result<Form<'a>, Stop>
     ensures read { Reads spec.form reader.old result reader.new }
     ensures sized { IfOk result (λ form. spec.HasSizes form) }
+    ensures few { IfOk result (λ form. spec.operand_count form ≤ length reader.old.rest + 1) }
 {
     if reader.is_ended() {
         return Ok(Form::Empty);
@@ -88,6 +90,7 @@ fn read_form<'a>(alloc: Global, reader: &mut Reader<'a>) -> Result<Form<'a>, Sto
 fn read_code<'a>(alloc: Global, reader: &mut Reader<'a>, op: Word<'a>) -> Result<Form<'a>, Stop>
     ensures read { Reads (spec.code op.entry) reader.old result reader.new }
     ensures sized { IfOk result (λ form. spec.HasSizes form) }
+    ensures few { IfOk result (λ form. spec.operand_count form ≤ length reader.old.rest + 1) }
 {
     let suffix = read_suffix(reader)?;
     let operands = read_operands(alloc, reader)?;
@@ -124,7 +127,9 @@ fn read_suffix(reader: &mut Reader<'_>) -> Result<Option<u8>, Stop>
 
 #[tactic(auto, unfolding(crate::specs::Statements::operands), using(crate::proofs::Repeats::starts, crate::proofs::Repeats::is_done, crate::proofs::Listed::not_begun))]
 fn read_operands<'a>(alloc: Global, reader: &mut Reader<'a>) -> Result<List<Draft<'a>>, Stop>
-    ensures { Reads spec.operands reader.old result reader.new }
+    ensures read { Reads spec.operands reader.old result reader.new }
+    // Each but the first has a comma before it.
+    ensures few { IfOk result (λ operands. length operands ≤ length reader.old.rest + 1) }
 {
     let mut operands = Vec::new(alloc);
     if reader.is_ended() {

@@ -3,3 +3,11 @@ pub mod NumberingLemmas
 pub mod AheadLemmas
 pub mod LabelLemmas
 pub mod ReadLemmas
+pub mod SymbolLemmas
+pub mod KnownLemmas
+pub mod TotalLemmas
+pub mod FirstLists
+pub mod FirstLabels
+pub mod FirstData
+pub mod FirstLemmas
+pub mod FirstNames

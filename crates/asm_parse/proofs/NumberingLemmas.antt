@@ -3,6 +3,7 @@ use Rattle.std.proofs.Common.{◌≡◌, ℕ, zero, suc, ◌+◌, ◌<◌, ◌�
 use Rattle.std.specs.Prelude.{position, slice_get}
 use Rattle.std.specs.List.{list_any, prefix_len, position_or_len}
 use Rattle.std.specs.Borrow.{Bor}
+use Rattle.std.proofs.lemmas.Bool.Decides.{nat_tests}
 use Rattle.std.proofs.lemmas.List.{map_push, map_more, get_or-map, length-map}
 use Rattle.asm_parse.specs.declared.unit.Symbol.{Symbol}
 use Rattle.asm_parse.specs.Parse.{symbol_of}
@@ -53,3 +54,20 @@ symbol_turn keys n m key items after made e m-is items-is after-is made-is =
     let more : map symbol_of (take (n + 1) (map key_seen keys)) ≡ map symbol_of (take n (map key_seen keys)) ++ symbol_of (key_seen key) ∷ [] =
     map_more symbol_of (map key_seen keys) n (key_seen key) inside ∙ ap (λ (k : Key). map symbol_of (take n (map key_seen keys)) ++ symbol_of k ∷ []) named in
     (omega (arith, at.0, m-is), after-is ∙ ap (λ (l : List Symbol). l ++ made ∷ []) items-is ∙ ap (λ (x : Symbol). map symbol_of (take n (map key_seen keys)) ++ x ∷ []) made-is ∙ sym more ∙ ap (λ (k : ℕ). map symbol_of (take k (map key_seen keys))) (sym m-is))
+
+-- what stands in a list has a place there
+any_within : {X : Type 0} (p : X → Bool) (xs : List X) → list_any p xs ≡ true → position_or_len p xs < length xs
+any_within p [] there = absurd cc
+any_within p (x ∷ xs) there = by (any_within p xs) (p x) refl there where
+  by : (list_any p xs ≡ true → position_or_len p xs < length xs) → (found : Bool) → p x ≡ found → (found || list_any p xs) ≡ true → position_or_len p (x ∷ xs) < length (x ∷ xs)
+  by rest true is there = rw is (omega arith)
+  by rest false is there = rw is (omega (arith, rest there))
+
+pub there_within : (names : List Key) (key : Key) → has_name names key ≡ true → place_of names key < length names
+there_within names key there = any_within (is_same key) names there
+
+none_there : {X : Type 0} (p : X → Bool) (xs : List X) (place : ℕ) → place < length xs → cond (ltb place (length xs)) (Some place) None ≡ None → ⊥
+none_there p xs place within none = grind (arith, nat_tests)
+
+pub has_number : (names : List Key) (key : Key) → has_name names key ≡ true → None ≡ number_of names key → ⊥
+has_number names key there none = none_there (is_same key) names (place_of names key) (there_within names key there) (sym none)

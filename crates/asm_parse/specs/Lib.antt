@@ -4,6 +4,9 @@ pub mod Ahead
 pub mod Lines
 pub mod Words
 pub mod Progress
+pub mod Known
 pub mod Steps
 pub mod Resolve
 pub mod Parse
+pub mod Valid
+pub mod First

@@ -18,7 +18,7 @@ use Rattle.asm_parse.specs.Refusals.{◌>>=◌, traversed}
 use Rattle.asm_parse.specs.Numbering.{Key}
 use Rattle.asm_parse.specs.Progress.{State, nothing_yet, ended}
 use Rattle.asm_parse.specs.Steps.{steps}
-use Rattle.asm_parse.specs.Resolve.{named_symbol, function_of}
+use Rattle.asm_parse.specs.Resolve.{symbol_number, function_of}
 
 abbrev pub is_end : Token → Bool
 is_end token = tokens.is_end token
@@ -39,30 +39,37 @@ abbrev pub bytes_in : DataValue → List ℕ
 bytes_in (Bytes bytes) = bytes
 bytes_in (Address symbol off) = []
 
-abbrev pub address_in : List Key → Pos → DataValue → Result (Option (ℕ × ℤ)) ParseNo
-address_in symbols place (Bytes bytes) = Ok None
-address_in symbols place (Address symbol off) = do
-  number ← named_symbol symbols place symbol
-  Ok (Some (number, off))
+abbrev pub address_in : List Key → DataValue → Option (ℕ × ℤ)
+address_in symbols (Bytes bytes) = None
+address_in symbols (Address symbol off) = Some (symbol_number symbols symbol, off)
 
-unfoldable pub value_of : List Key → PlacedData → Result DataPart ParseNo
-value_of symbols placed = do
-  number ← named_symbol symbols placed.pos placed.line.symbol
-  to ← address_in symbols placed.pos placed.line.value
-  Ok (record { sym = number; off = placed.line.off; bytes = bytes_in placed.line.value; address = to; pos = placed.pos })
+abbrev pub value_of : List Key → PlacedData → DataPart
+value_of symbols placed = record {
+  sym = symbol_number symbols placed.line.symbol;
+  off = placed.line.off;
+  bytes = bytes_in placed.line.value;
+  address = address_in symbols placed.line.value;
+  pos = placed.pos;
+}
 
-unfoldable pub global_of : List Key → PlacedGlobal → Result GlobalPart ParseNo
-global_of symbols placed = do
-  number ← named_symbol symbols placed.pos placed.line.symbol
-  Ok (record { sym = number; flags = placed.line.flags; size = placed.line.size; pos = placed.pos })
+abbrev pub global_of : List Key → PlacedGlobal → GlobalPart
+global_of symbols placed = record {
+  sym = symbol_number symbols placed.line.symbol;
+  flags = placed.line.flags;
+  size = placed.line.size;
+  pos = placed.pos;
+}
 
 -- what was read, with its names resolved
 unfoldable pub unit_of : (List ℕ → Bool) → State → Result Said ParseNo
 unit_of word state = do
   made ← traversed (function_of word state.symbols) state.bodies
-  stored ← traversed (value_of state.symbols) state.values
-  declared ← traversed (global_of state.symbols) state.globals
-  Ok (record { symbols = map symbol_of state.symbols; functions = made; values = stored; globals = declared })
+  Ok (record {
+    symbols = map symbol_of state.symbols;
+    functions = made;
+    values = map (value_of state.symbols) state.values;
+    globals = map (global_of state.symbols) state.globals;
+  })
 
 -- the first refusal by statements, and only where there is none a name that stands for nothing
 unfoldable pub parsed : (List ℕ → Bool) → List Token → Result Said ParseNo

@@ -15,29 +15,19 @@ use Rattle.asm_parse.specs.declared.lines.Line.{Line}
 use Rattle.asm_parse.specs.declared.lines.Slot.{Slot}
 use Rattle.asm_parse.specs.declared.parse_no.ParseNo.{ParseNo}
 use Rattle.asm_parse.specs.declared.parse_no.ParseNo.TheVariants.{P3, P8}
-use Rattle.asm_parse.specs.Numbering.{Key, number_of}
+use Rattle.asm_parse.specs.Numbering.{Key, number_of, place_of}
 use Rattle.asm_parse.specs.Progress.{key_of}
 use Rattle.asm_parse.specs.Lines.{is_aside}
 use Rattle.asm_parse.specs.Refusals.{◌>>=◌, traversed}
 
-abbrev pub short : ℕ → Option ℕ
-short number = if nat_lt number (2 ^ 32) then Some number else None
-
 -- the number of a symbol: each one that is named was numbered
-abbrev pub symbol_number : List Key → SymbolName → Option ℕ
-symbol_number symbols symbol = option_and_then short (number_of symbols (key_of symbol))
-
-abbrev pub or_unknown : {A : Type 0} → Pos → Option A → Result A ParseNo
-or_unknown place None = Err (P3 place)
-or_unknown place (Some value) = Ok value
-
-abbrev pub named_symbol : List Key → Pos → SymbolName → Result ℕ ParseNo
-named_symbol symbols place symbol = or_unknown place (symbol_number symbols symbol)
+abbrev pub symbol_number : List Key → SymbolName → ℕ
+symbol_number symbols symbol = place_of symbols (key_of symbol)
 
 -- a statement of the function, where there is one with this number
 abbrev pub statement_at : Body → Option ℕ → Option ℕ
 statement_at body None = None
-statement_at body (Some index) = if nat_lt index (length body.lines) then short index else None
+statement_at body (Some index) = if nat_lt index (length body.lines) then Some index else None
 
 abbrev pub goal_at : Body → Option ℕ → Option ℕ
 goal_at body None = None
@@ -72,13 +62,12 @@ reached body line away =
     else (if is_aside line.code.op then None
     else statement_at body (goal_away body line.place away))
 
-abbrev pub is_unknown : (List ℕ → Bool) → List Key → Body → Draft → Bool
-is_unknown word symbols body (Bare name) = not (word name) && is_none (goal_of body name)
-is_unknown word symbols body (Symbol symbol off address) = is_none (symbol_number symbols symbol)
-is_unknown word symbols body _ = false
+abbrev pub is_unknown : (List ℕ → Bool) → Body → Draft → Bool
+is_unknown word body (Bare name) = not (word name) && is_none (goal_of body name)
+is_unknown word body _ = false
 
-abbrev pub has_unknown : (List ℕ → Bool) → List Key → Body → List Draft → Bool
-has_unknown word symbols body drafts = list_any (is_unknown word symbols body) drafts
+abbrev pub has_unknown : (List ℕ → Bool) → Body → List Draft → Bool
+has_unknown word body drafts = list_any (is_unknown word body) drafts
 
 abbrev pub labelled : Pos → Option ℕ → Result Operand ParseNo
 labelled place None = Err (P3 place)
@@ -96,9 +85,7 @@ abbrev pub operand_of : (List ℕ → Bool) → List Key → Body → Line → D
 operand_of word symbols body line (Imm value) = Ok (operands.Imm value)
 operand_of word symbols body line (Bare name) = bare word body line.pos name
 operand_of word symbols body line (Mem off base index) = Ok (operands.Mem off base index)
-operand_of word symbols body line (Symbol symbol off address) = do
-  number ← named_symbol symbols line.pos symbol
-  Ok (operands.Sym number off address)
+operand_of word symbols body line (Symbol symbol off address) = Ok (operands.Sym (symbol_number symbols symbol) off address)
 operand_of word symbols body line (Arg name off address) = Ok (operands.Arg (name_of name) off address)
 operand_of word symbols body line (Auto off address) = Ok (operands.Auto off address)
 operand_of word symbols body line (Away away) = away_to line.pos (reached body line away)
@@ -108,12 +95,11 @@ operand_of word symbols body line (Shifted reg kind amount) = Ok (operands.Shift
 -- a name that stands for nothing comes before a way that leads nowhere
 unfoldable pub statement_of : (List ℕ → Bool) → List Key → Body → Line → Result Stmt ParseNo
 statement_of word symbols body line =
-    if has_unknown word symbols body line.code.operands then Err (P3 line.pos) else (do
+    if has_unknown word body line.code.operands then Err (P3 line.pos) else (do
       given ← traversed (operand_of word symbols body line) line.code.operands
       Ok (record { pos = line.pos; lock = line.lock; op = line.code.op; suffix = line.code.suffix; operands = given }))
 
 unfoldable pub function_of : (List ℕ → Bool) → List Key → Body → Result Function ParseNo
 function_of word symbols body = do
-  number ← named_symbol symbols body.pos body.head.symbol
   given ← traversed (statement_of word symbols body) body.lines
-  Ok (record { sym = number; flags = body.head.flags; locals = body.head.locals; args = body.head.args; pos = body.pos; stmts = given })
+  Ok (record { sym = symbol_number symbols body.head.symbol; flags = body.head.flags; locals = body.head.locals; args = body.head.args; pos = body.pos; stmts = given })

@@ -47,10 +47,13 @@ are_none [] = true
 are_none (label ∷ labels) = false
 
 -- labels stand in a function and before one of its statements, and so does a LOCK that stands in one
+abbrev pub has_place : Bool → Outlook → Statement → Bool
+has_place inside outlook statement =
+    (are_none statement.labels || (inside && serves_label outlook.here))
+    && (not (is_lock statement.form) || not inside || serves_lock outlook.behind)
+
 abbrev pub fits : State → Outlook → Statement → Bool
-fits state outlook statement =
-    (are_none statement.labels || (is_some state.head && serves_label outlook.here))
-    && (not (is_lock statement.form) || not (is_some state.head) || serves_lock outlook.behind)
+fits state outlook statement = has_place (is_some state.head) outlook statement
 
 abbrev pub names_words : (List ℕ → Bool) → Form → Bool
 names_words word (Code line) = are_words word line.operands

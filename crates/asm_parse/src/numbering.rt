@@ -1,4 +1,4 @@
-ghost use Rattle.std.specs.Prelude.{◌≡◌, ◌<◌, [], not, length, map, IfOk, OnOk, IfSome};
+ghost use Rattle.std.specs.Prelude.{◌≡◌, ◌<◌, true, [], not, length, map, IfOk, OnOk, IfSome};
 ghost use Rattle.asm_parse.specs.Numbering as spec;
 ghost use Rattle.asm_parse.specs.Parse as parse;
 
@@ -50,6 +50,18 @@ impl<'a> Numbering<'a> {
         ensures within { IfSome result (λ number. number < length self.now) }
     {
         self.names.get_index_of(&(name, fixed))
+    }
+
+    /// The number of a name that is there.
+    pub fn known_number(&self, name: &[u8], fixed: bool) -> usize
+        requires { spec.has_name self.now (name.now, fixed) ≡ true }
+        ensures number { result ≡ spec.place_of self.now (name.now, fixed) }
+        ensures within { result < length self.now }
+    {
+        match self.number(name, fixed) {
+            Some(number) => number,
+            None => unreachable!(),
+        }
     }
 
     /// The symbols with these names.

@@ -1,9 +1,13 @@
-ghost use Rattle.std.specs.Prelude.{◌≡◌, ◌≤◌, List, ℕ, Bool, length, IfOk};
+ghost use Rattle.std.specs.Prelude.{◌≡◌, ◌≤◌, List, ℕ, Bool, length, sum_by, IfOk, OnOk};
 ghost use Rattle.asm_parse.specs.Refusals.{Gives, Moves};
 ghost use Rattle.asm_parse.specs.Steps.{steps};
 ghost use Rattle.asm_parse.specs.Ahead.{seen};
 ghost use Rattle.asm_parse.specs.Parse as spec;
 ghost use Rattle.asm_parse.specs.Words.{IsAskable, Tells};
+ghost use Rattle.asm_parse.specs.Known.{IsKnown};
+ghost use Rattle.asm_parse.specs.Valid.{IsValidUnit};
+ghost use Rattle.asm_parse.specs.First.{refusal_of};
+ghost use Rattle.goasm_base.specs.Refusals.{Judges};
 
 use crate::ahead::{Opening, Outlook, outlooks};
 use crate::parse_no::ParseNo;
@@ -27,6 +31,8 @@ pub fn parse<W: Fn(&[u8]) -> bool>(
     requires askable { IsAskable (W.pre is_word) }
     requires few { length tokens.now.list ≤ 4_000_000 }
     ensures exact { (word : List ℕ → Bool) → Tells (W.post is_word) word → Gives (spec.parsed word tokens.now.list) result }
+    ensures valid { IfOk result IsValidUnit }
+    ensures first { (word : List ℕ → Bool) → Tells (W.post is_word) word → Judges ParseNo.Memory result (refusal_of word tokens.now.list) }
 {
     let statements = statements_in(alloc, tokens.list.as_slice())?;
     let progress = read_all(alloc, statements.as_slice(), &is_word)?;
@@ -52,7 +58,8 @@ fn read_all<'a, W: Fn(&[u8]) -> bool>(
     is_word: &W,
 ) -> Result<Progress<'a>, ParseNo>
     requires { IsAskable (W.pre is_word.now) }
-    ensures { (word : List ℕ → Bool) → Tells (W.post is_word.now) word → Gives (spec.read_of word (seen statements.now)) result }
+    ensures exact { (word : List ℕ → Bool) → Tells (W.post is_word.now) word → Gives (spec.read_of word (seen statements.now)) result }
+    ensures known { IfOk result (IsKnown (sum_by length (seen statements.now))) }
 {
     let mut progress = Progress::new(alloc);
     read_into(alloc, &mut progress, statements, is_word)?;
@@ -68,7 +75,8 @@ fn read_into<'a, W: Fn(&[u8]) -> bool>(
     is_word: &W,
 ) -> Result<(), ParseNo>
     requires { IsAskable (W.pre is_word.now) }
-    ensures { (word : List ℕ → Bool) → Tells (W.post is_word.now) word → Moves (steps word progress.old (seen statements.now)) result progress.new }
+    ensures exact { (word : List ℕ → Bool) → Tells (W.post is_word.now) word → Moves (steps word progress.old (seen statements.now)) result progress.new }
+    ensures known { OnOk result (IsKnown 0 progress.old → IsKnown (sum_by length (seen statements.now)) progress.new) }
 {
     let mut outlooks = outlooks(alloc, statements)?;
     for statement in statements {

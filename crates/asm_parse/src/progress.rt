@@ -3,6 +3,8 @@ ghost use Rattle.asm_parse.specs.Refusals.{Gives};
 ghost use Rattle.asm_parse.specs.Parse as parse;
 ghost use Rattle.asm_parse.specs.Words.{IsAskable, Tells};
 ghost use Rattle.asm_parse.specs.Progress as spec;
+ghost use Rattle.asm_parse.specs.Known.{IsKnown, most_tokens};
+ghost use Rattle.asm_parse.specs.Valid.{IsValidUnit};
 ghost use Rattle.asm_parse.specs.Numbering.{place_of};
 ghost use Rattle.asm_parse.specs.Lines.{are_new};
 
@@ -168,8 +170,10 @@ impl<'a> Progress<'a> {
         alloc: Global,
         is_word: &W,
     ) -> Result<Unit, ParseNo>
-        requires { IsAskable (W.pre is_word.now) }
-        ensures { (word : List ℕ → Bool) → Tells (W.post is_word.now) word → Gives (parse.unit_of word self.now) result }
+        requires askable { IsAskable (W.pre is_word.now) }
+        requires known { IsKnown most_tokens self.now }
+        ensures exact { (word : List ℕ → Bool) → Tells (W.post is_word.now) word → Gives (parse.unit_of word self.now) result }
+        ensures valid { IfOk result IsValidUnit }
     {
         let functions = functions_of(alloc, &self.symbols, is_word, self.bodies.as_slice())?;
         let values = values_of(alloc, &self.symbols, self.values.as_slice())?;

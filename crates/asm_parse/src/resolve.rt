@@ -1,5 +1,7 @@
-ghost use Rattle.std.specs.Prelude.{◌≡◌, List, ℕ, Bool, IfOk};
+ghost use Rattle.std.specs.Prelude.{◌≡◌, ◌<◌, ◌≤◌, List, ℕ, Bool, All, length, IfOk, IfSome};
+ghost use Rattle.goasm_base.specs.Statements.{IsValidFunction, IsValidStatement, IsValidOperand, most_statements};
 ghost use Rattle.asm_parse.specs.Refusals.{Gives, traversed};
+ghost use Rattle.asm_parse.specs.Known.{AreFew, IsNumbered, IsKnownOperand, IsKnownLine, IsKnownBody, most_tokens};
 ghost use Rattle.asm_parse.specs.Resolve as spec;
 ghost use Rattle.asm_parse.specs.Words.{IsAskable, Tells};
 
@@ -19,13 +21,15 @@ pub fn function_of<W: Fn(&[u8]) -> bool>(
     is_word: &W,
     body: &Body<'_>,
 ) -> Result<Function, ParseNo>
-    requires { IsAskable (W.pre is_word.now) }
-    ensures { (word : List ℕ → Bool) → Tells (W.post is_word.now) word → Gives (spec.function_of word symbols.now body.now) result }
+    requires askable { IsAskable (W.pre is_word.now) }
+    requires few { AreFew symbols.now }
+    requires known { IsKnownBody symbols.now most_tokens body.now }
+    ensures exact { (word : List ℕ → Bool) → Tells (W.post is_word.now) word → Gives (spec.function_of word symbols.now body.now) result }
+    ensures valid { IfOk result (IsValidFunction (length symbols.now)) }
 {
-    let sym = named_symbol(symbols, body.pos, &body.head.symbol)?;
     let stmts = statements_of(alloc, symbols, is_word, body, body.lines.as_slice())?;
     Ok(Function {
-        sym,
+        sym: symbol_number(symbols, &body.head.symbol),
         flags: body.head.flags,
         locals: body.head.locals,
         args: body.head.args,
@@ -41,8 +45,13 @@ fn statements_of<W: Fn(&[u8]) -> bool>(
     body: &Body<'_>,
     lines: &[Line<'_>],
 ) -> Result<Items<Stmt>, ParseNo>
-    requires { IsAskable (W.pre is_word.now) }
-    ensures { (word : List ℕ → Bool) → Tells (W.post is_word.now) word → Gives (traversed (spec.statement_of word symbols.now body.now) lines.now) result }
+    requires askable { IsAskable (W.pre is_word.now) }
+    requires few { AreFew symbols.now }
+    requires short { length body.now.lines ≤ most_statements }
+    requires known { All (IsKnownLine symbols.now) lines.now }
+    ensures exact { (word : List ℕ → Bool) → Tells (W.post is_word.now) word → Gives (traversed (spec.statement_of word symbols.now body.now) lines.now) result }
+    ensures valid { IfOk result (λ stmts. All (IsValidStatement (length symbols.now) (length body.now.lines)) stmts) }
+    ensures count { IfOk result (λ stmts. length stmts ≡ length lines.now) }
 {
     let mut stmts = Vec::new(alloc);
     for line in lines {
@@ -60,11 +69,15 @@ fn statement_of<W: Fn(&[u8]) -> bool>(
     body: &Body<'_>,
     line: &Line<'_>,
 ) -> Result<Stmt, ParseNo>
-    requires { IsAskable (W.pre is_word.now) }
-    ensures { (word : List ℕ → Bool) → Tells (W.post is_word.now) word → Gives (spec.statement_of word symbols.now body.now line.now) result }
+    requires askable { IsAskable (W.pre is_word.now) }
+    requires few { AreFew symbols.now }
+    requires short { length body.now.lines ≤ most_statements }
+    requires known { IsKnownLine symbols.now line.now }
+    ensures exact { (word : List ℕ → Bool) → Tells (W.post is_word.now) word → Gives (spec.statement_of word symbols.now body.now line.now) result }
+    ensures valid { IfOk result (IsValidStatement (length symbols.now) (length body.now.lines)) }
 {
     let drafts = line.code.operands.as_slice();
-    if has_unknown(symbols, is_word, body, drafts) {
+    if has_unknown(is_word, body, drafts) {
         return Err(ParseNo::P3(line.pos));
     }
     let operands = operands_of(alloc, symbols, is_word, body, line, drafts)?;
@@ -85,8 +98,12 @@ fn operands_of<W: Fn(&[u8]) -> bool>(
     line: &Line<'_>,
     drafts: &[Draft<'_>],
 ) -> Result<Items<Operand>, ParseNo>
-    requires { IsAskable (W.pre is_word.now) }
-    ensures { (word : List ℕ → Bool) → Tells (W.post is_word.now) word → Gives (traversed (spec.operand_of word symbols.now body.now line.now) drafts.now) result }
+    requires askable { IsAskable (W.pre is_word.now) }
+    requires few { AreFew symbols.now }
+    requires short { length body.now.lines ≤ most_statements }
+    requires known { All (IsKnownOperand symbols.now) drafts.now }
+    ensures exact { (word : List ℕ → Bool) → Tells (W.post is_word.now) word → Gives (traversed (spec.operand_of word symbols.now body.now line.now) drafts.now) result }
+    ensures valid { IfOk result (λ operands. All (IsValidOperand (length symbols.now) (length body.now.lines)) operands) }
 {
     let mut operands = Vec::new(alloc);
     for draft in drafts {
@@ -97,39 +114,24 @@ fn operands_of<W: Fn(&[u8]) -> bool>(
 }
 
 // Whether one of the operands names nothing.
-fn has_unknown<W: Fn(&[u8]) -> bool>(
-    symbols: &Numbering<'_>,
-    is_word: &W,
-    body: &Body<'_>,
-    drafts: &[Draft<'_>],
-) -> bool
+fn has_unknown<W: Fn(&[u8]) -> bool>(is_word: &W, body: &Body<'_>, drafts: &[Draft<'_>]) -> bool
     requires { IsAskable (W.pre is_word.now) }
-    ensures { (word : List ℕ → Bool) → Tells (W.post is_word.now) word → result ≡ spec.has_unknown word symbols.now body.now drafts.now }
+    ensures { (word : List ℕ → Bool) → Tells (W.post is_word.now) word → result ≡ spec.has_unknown word body.now drafts.now }
 {
     for draft in drafts {
-        if is_unknown(symbols, is_word, body, draft) {
+        if is_unknown(is_word, body, draft) {
             return true;
         }
     }
     false
 }
 
-fn is_unknown<W: Fn(&[u8]) -> bool>(
-    symbols: &Numbering<'_>,
-    is_word: &W,
-    body: &Body<'_>,
-    draft: &Draft<'_>,
-) -> bool
+fn is_unknown<W: Fn(&[u8]) -> bool>(is_word: &W, body: &Body<'_>, draft: &Draft<'_>) -> bool
     requires { IsAskable (W.pre is_word.now) }
-    ensures { (word : List ℕ → Bool) → Tells (W.post is_word.now) word → result ≡ spec.is_unknown word symbols.now body.now draft.now }
+    ensures { (word : List ℕ → Bool) → Tells (W.post is_word.now) word → result ≡ spec.is_unknown word body.now draft.now }
 {
     match draft {
         Draft::Bare(name) => !is_word(name.as_slice()) && goal_of(body, name).is_none(),
-        Draft::Symbol {
-            symbol,
-            off: _,
-            address: _,
-        } => number_of(symbols, symbol).is_none(),
         _ => false,
     }
 }
@@ -142,8 +144,12 @@ fn operand_of<W: Fn(&[u8]) -> bool>(
     line: &Line<'_>,
     draft: &Draft<'_>,
 ) -> Result<Operand, ParseNo>
-    requires { IsAskable (W.pre is_word.now) }
-    ensures { (word : List ℕ → Bool) → Tells (W.post is_word.now) word → Gives (spec.operand_of word symbols.now body.now line.now draft.now) result }
+    requires askable { IsAskable (W.pre is_word.now) }
+    requires few { AreFew symbols.now }
+    requires short { length body.now.lines ≤ most_statements }
+    requires known { IsKnownOperand symbols.now draft.now }
+    ensures exact { (word : List ℕ → Bool) → Tells (W.post is_word.now) word → Gives (spec.operand_of word symbols.now body.now line.now draft.now) result }
+    ensures valid { IfOk result (IsValidOperand (length symbols.now) (length body.now.lines)) }
 {
     match draft {
         Draft::Imm(value) => Ok(Operand::Imm(*value)),
@@ -158,7 +164,7 @@ fn operand_of<W: Fn(&[u8]) -> bool>(
             off,
             address,
         } => Ok(Operand::Sym {
-            sym: named_symbol(symbols, line.pos, symbol)?,
+            sym: symbol_number(symbols, symbol),
             off: *off,
             address: *address,
         }),
@@ -172,7 +178,7 @@ fn operand_of<W: Fn(&[u8]) -> bool>(
             address: *address,
         }),
         Draft::Away(away) => match reached(body, line, *away) {
-            Some(statement) => Ok(Operand::Label(statement)),
+            Some(statement) => Ok(Operand::Label(statement as u32)),
             None => Err(ParseNo::P8(line.pos)),
         },
         Draft::Pair(first, second) => Ok(Operand::Pair(first.owned(alloc)?, second.owned(alloc)?)),
@@ -192,14 +198,16 @@ fn bare<W: Fn(&[u8]) -> bool>(
     pos: Pos,
     name: &Word<'_>,
 ) -> Result<Operand, ParseNo>
-    requires { IsAskable (W.pre is_word.now) }
-    ensures { (word : List ℕ → Bool) → Tells (W.post is_word.now) word → Gives (spec.bare word body.now pos name.now) result }
+    requires askable { IsAskable (W.pre is_word.now) }
+    requires short { length body.now.lines ≤ most_statements }
+    ensures exact { (word : List ℕ → Bool) → Tells (W.post is_word.now) word → Gives (spec.bare word body.now pos name.now) result }
+    ensures valid { (symbols : ℕ) → IfOk result (IsValidOperand symbols (length body.now.lines)) }
 {
     if is_word(name.as_slice()) {
         return Ok(Operand::Word(name.owned(alloc)?));
     }
     match goal_of(body, name) {
-        Some(statement) => Ok(Operand::Label(statement)),
+        Some(statement) => Ok(Operand::Label(statement as u32)),
         None => Err(ParseNo::P3(pos)),
     }
 }
@@ -213,62 +221,40 @@ fn owned_index(alloc: Global, index: &Option<(Word<'_>, u8)>) -> Result<Option<(
     }
 }
 
-/// The number of a symbol.
-pub fn named_symbol(
-    symbols: &Numbering<'_>,
-    pos: Pos,
-    symbol: &SymbolName<'_>,
-) -> Result<u32, ParseNo>
-    ensures { Gives (spec.named_symbol symbols.now pos symbol.now) result }
+/// The number of a symbol, which has one.
+pub fn symbol_number(symbols: &Numbering<'_>, symbol: &SymbolName<'_>) -> u32
+    requires few { AreFew symbols.now }
+    requires known { IsNumbered symbols.now symbol.now }
+    ensures exact { result ≡ spec.symbol_number symbols.now symbol.now }
+    ensures within { result < length symbols.now }
 {
-    match number_of(symbols, symbol) {
-        Some(number) => Ok(number),
-        None => Err(ParseNo::P3(pos)),
-    }
-}
-
-fn number_of(symbols: &Numbering<'_>, symbol: &SymbolName<'_>) -> Option<u32>
-    ensures { result ≡ spec.symbol_number symbols.now symbol.now }
-{
-    match symbols.number(unprefixed(symbol.name.as_slice()), symbol.fixed) {
-        Some(number) => short(number),
-        None => None,
-    }
+    symbols.known_number(unprefixed(symbol.name.as_slice()), symbol.fixed) as u32
 }
 
 // The statement before which a label of the function stands.
-fn goal_of(body: &Body<'_>, name: &Word<'_>) -> Option<u32>
-    ensures { result ≡ spec.goal_of body.now name.now }
+fn goal_of(body: &Body<'_>, name: &Word<'_>) -> Option<usize>
+    ensures exact { result ≡ spec.goal_of body.now name.now }
+    ensures within { IfSome result (λ statement. statement < length body.now.lines) }
 {
-    match body.labels.number(name.as_slice(), false) {
-        Some(number) => statement_at(body, body.goals.as_slice().get(number).copied()),
-        None => None,
-    }
+    let number = body.labels.number(name.as_slice(), false)?;
+    statement_at(body, body.goals.as_slice().get(number).copied())
 }
 
 // A statement of the function, where there is one with this number.
-fn statement_at(body: &Body<'_>, index: Option<usize>) -> Option<u32>
-    ensures { result ≡ spec.statement_at body.now index }
+fn statement_at(body: &Body<'_>, index: Option<usize>) -> Option<usize>
+    ensures exact { result ≡ spec.statement_at body.now index }
+    ensures within { IfSome result (λ statement. statement < length body.now.lines) }
 {
     match index {
-        Some(index) if index < body.lines.as_slice().len() => short(index),
+        Some(index) if index < body.lines.as_slice().len() => Some(index),
         _ => None,
     }
 }
 
-fn short(number: usize) -> Option<u32>
-    ensures { result ≡ spec.short number }
-{
-    if number <= u32::MAX as usize {
-        Some(number as u32)
-    } else {
-        None
-    }
-}
-
 // The statement so many source instructions away.
-fn reached(body: &Body<'_>, line: &Line<'_>, away: i64) -> Option<u32>
-    ensures { result ≡ spec.reached body.now line.now away }
+fn reached(body: &Body<'_>, line: &Line<'_>, away: i64) -> Option<usize>
+    ensures exact { result ≡ spec.reached body.now line.now away }
+    ensures within { IfSome result (λ statement. statement < length body.now.lines) }
 {
     if away.unsigned_abs() == 0 {
         if line.lock {

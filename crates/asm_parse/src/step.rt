@@ -1,5 +1,7 @@
-ghost use Rattle.std.specs.Prelude.{◌≡◌, List, ℕ, Bool, IfOk, OnOk};
+ghost use Rattle.std.specs.Prelude.{◌≡◌, ◌+◌, ◌≤◌, List, ℕ, Bool, length, IfOk, OnOk};
+ghost use Rattle.asm_grammar.specs.Statements.{HasSizes, operand_count};
 ghost use Rattle.asm_parse.specs.Refusals.{Gives, Moves};
+ghost use Rattle.asm_parse.specs.Known.{IsKnown};
 ghost use Rattle.asm_parse.specs.Steps as spec;
 ghost use Rattle.asm_parse.specs.Words.{IsAskable, Tells};
 
@@ -29,7 +31,8 @@ pub fn step<'a, W: Fn(&[u8]) -> bool>(
     is_word: &W,
 ) -> Result<(), ParseNo>
     requires { IsAskable (W.pre is_word.now) }
-    ensures { (word : List ℕ → Bool) → Tells (W.post is_word.now) word → Moves (spec.step word progress.old outlook tokens.now) result progress.new }
+    ensures exact { (word : List ℕ → Bool) → Tells (W.post is_word.now) word → Moves (spec.step word progress.old outlook tokens.now) result progress.new }
+    ensures known { OnOk result ((before : ℕ) → IsKnown before progress.old → IsKnown (before + length tokens.now) progress.new) }
 {
     let pos = match tokens {
         [] => return Ok(()),
@@ -48,7 +51,9 @@ pub fn step<'a, W: Fn(&[u8]) -> bool>(
 
 #[tactic(auto, unfolding(crate::specs::Steps::read))]
 fn read_one<'a>(alloc: Global, pos: Pos, tokens: &'a [Token]) -> Result<Read<'a>, ParseNo>
-    ensures { Gives (spec.read pos tokens.now) result }
+    ensures exact { Gives (spec.read pos tokens.now) result }
+    ensures sized { IfOk result (λ read. HasSizes read.statement.form) }
+    ensures few { IfOk result (λ read. operand_count read.statement.form ≤ length tokens.now + 1) }
 {
     let mut reader = Reader::new(tokens);
     match read_statement(alloc, &mut reader) {

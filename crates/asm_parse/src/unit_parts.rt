@@ -1,5 +1,8 @@
-ghost use Rattle.std.specs.Prelude.{◌≡◌, List, ℕ, Bool, IfOk, map};
+ghost use Rattle.std.specs.Prelude.{◌≡◌, ◌<◌, List, ℕ, Bool, All, length, map, IfOk, IfSome};
+ghost use Rattle.goasm_base.specs.Statements.{IsValidFunction};
 ghost use Rattle.asm_parse.specs.Refusals.{Gives, traversed};
+ghost use Rattle.asm_parse.specs.Known.{AreFew, IsKnownBody, IsKnownValue, IsKnownData, IsKnownGlobal, most_tokens};
+ghost use Rattle.asm_parse.specs.Valid.{IsValidData, IsValidGlobal};
 ghost use Rattle.asm_parse.specs.Resolve as resolve;
 ghost use Rattle.asm_parse.specs.Parse as spec;
 ghost use Rattle.asm_parse.specs.Words.{IsAskable, Tells};
@@ -8,10 +11,10 @@ use crate::lines::Body;
 use crate::numbering::Numbering;
 use crate::parse_no::ParseNo;
 use crate::progress::{PlacedData, PlacedGlobal};
-use crate::resolve::{function_of, named_symbol};
+use crate::resolve::{function_of, symbol_number};
 use crate::unit::{DataPart, GlobalPart};
 use asm_grammar::DataValue;
-use goasm_base::{Bytes, Function, List as Items, Pos};
+use goasm_base::{Bytes, Function, List as Items, Memory};
 use std::alloc::Global;
 
 /// The functions with these bodies, in their order.
@@ -21,8 +24,11 @@ pub fn functions_of<W: Fn(&[u8]) -> bool>(
     is_word: &W,
     bodies: &[Body<'_>],
 ) -> Result<Items<Function>, ParseNo>
-    requires { IsAskable (W.pre is_word.now) }
-    ensures { (word : List ℕ → Bool) → Tells (W.post is_word.now) word → Gives (traversed (resolve.function_of word symbols.now) bodies.now) result }
+    requires askable { IsAskable (W.pre is_word.now) }
+    requires few { AreFew symbols.now }
+    requires known { All (IsKnownBody symbols.now most_tokens) bodies.now }
+    ensures exact { (word : List ℕ → Bool) → Tells (W.post is_word.now) word → Gives (traversed (resolve.function_of word symbols.now) bodies.now) result }
+    ensures valid { IfOk result (λ functions. All (IsValidFunction (length symbols.now)) functions) }
 {
     let mut functions = Vec::new(alloc);
     for body in bodies {
@@ -37,8 +43,11 @@ pub fn values_of(
     alloc: Global,
     symbols: &Numbering<'_>,
     placed: &[PlacedData<'_>],
-) -> Result<Items<DataPart>, ParseNo>
-    ensures { Gives (traversed (spec.value_of symbols.now) placed.now) result }
+) -> Result<Items<DataPart>, Memory>
+    requires few { AreFew symbols.now }
+    requires known { All (IsKnownData symbols.now) placed.now }
+    ensures exact { IfOk result (λ values. values ≡ map (spec.value_of symbols.now) placed.now) }
+    ensures valid { IfOk result (λ values. All (IsValidData (length symbols.now)) values) }
 {
     let mut values = Vec::new(alloc);
     for data in placed {
@@ -48,16 +57,18 @@ pub fn values_of(
     Ok(Items::new(values))
 }
 
-#[tactic(auto, unfolding(crate::specs::Parse::value_of))]
 fn value_of(
     alloc: Global,
     symbols: &Numbering<'_>,
     placed: &PlacedData<'_>,
-) -> Result<DataPart, ParseNo>
-    ensures { Gives (spec.value_of symbols.now placed.now) result }
+) -> Result<DataPart, Memory>
+    requires few { AreFew symbols.now }
+    requires known { IsKnownData symbols.now placed.now }
+    ensures exact { IfOk result (λ part. part ≡ spec.value_of symbols.now placed.now) }
+    ensures valid { IfOk result (IsValidData (length symbols.now)) }
 {
-    let sym = named_symbol(symbols, placed.pos, &placed.line.symbol)?;
-    let address = address_in(symbols, placed.pos, &placed.line.value)?;
+    let sym = symbol_number(symbols, &placed.line.symbol);
+    let address = address_in(symbols, &placed.line.value);
     let bytes = match &placed.line.value {
         DataValue::Bytes(bytes) => bytes.copy(alloc)?,
         DataValue::Address { symbol: _, off: _ } => Bytes::new(Vec::new(alloc)),
@@ -71,19 +82,15 @@ fn value_of(
     })
 }
 
-fn address_in(
-    symbols: &Numbering<'_>,
-    pos: Pos,
-    value: &DataValue<'_>,
-) -> Result<Option<(u32, i64)>, ParseNo>
-    ensures { Gives (spec.address_in symbols.now pos value.now) result }
+fn address_in(symbols: &Numbering<'_>, value: &DataValue<'_>) -> Option<(u32, i64)>
+    requires few { AreFew symbols.now }
+    requires known { IsKnownValue symbols.now value.now }
+    ensures exact { result ≡ spec.address_in symbols.now value.now }
+    ensures within { IfSome result (λ to. to.0 < length symbols.now) }
 {
     match value {
-        DataValue::Bytes(_) => Ok(None),
-        DataValue::Address { symbol, off } => {
-            let sym = named_symbol(symbols, pos, symbol)?;
-            Ok(Some((sym, *off)))
-        }
+        DataValue::Bytes(_) => None,
+        DataValue::Address { symbol, off } => Some((symbol_number(symbols, symbol), *off)),
     }
 }
 
@@ -92,26 +99,29 @@ pub fn globals_of(
     alloc: Global,
     symbols: &Numbering<'_>,
     placed: &[PlacedGlobal<'_>],
-) -> Result<Items<GlobalPart>, ParseNo>
-    ensures { Gives (traversed (spec.global_of symbols.now) placed.now) result }
+) -> Result<Items<GlobalPart>, Memory>
+    requires few { AreFew symbols.now }
+    requires known { All (IsKnownGlobal symbols.now) placed.now }
+    ensures exact { IfOk result (λ globals. globals ≡ map (spec.global_of symbols.now) placed.now) }
+    ensures valid { IfOk result (λ globals. All (IsValidGlobal (length symbols.now)) globals) }
 {
     let mut globals = Vec::new(alloc);
     for global in placed {
-        let part = global_of(symbols, global)?;
-        globals.push(part)?;
+        globals.push(global_of(symbols, global))?;
     }
     Ok(Items::new(globals))
 }
 
-#[tactic(auto, unfolding(crate::specs::Parse::global_of))]
-fn global_of(symbols: &Numbering<'_>, placed: &PlacedGlobal<'_>) -> Result<GlobalPart, ParseNo>
-    ensures { Gives (spec.global_of symbols.now placed.now) result }
+fn global_of(symbols: &Numbering<'_>, placed: &PlacedGlobal<'_>) -> GlobalPart
+    requires few { AreFew symbols.now }
+    requires known { IsKnownGlobal symbols.now placed.now }
+    ensures exact { result ≡ spec.global_of symbols.now placed.now }
+    ensures valid { IsValidGlobal (length symbols.now) result }
 {
-    let sym = named_symbol(symbols, placed.pos, &placed.line.symbol)?;
-    Ok(GlobalPart {
-        sym,
+    GlobalPart {
+        sym: symbol_number(symbols, &placed.line.symbol),
         flags: placed.line.flags,
         size: placed.line.size,
         pos: placed.pos,
-    })
+    }
 }

@@ -148,6 +148,55 @@ const REFUSED: [(&str, (u32, u32)); 45] = [
     ("TEXT f(SB), 4, $0-0\nJMP 7(PC)\na: BYTE\n", (10, 3)),
 ];
 
+// Of two refusals in one statement that with the lower number counts, and of two statements the earlier one.
+const FIRST: [(&str, (u32, u32)); 30] = [
+    ("TEXT f(SB), 4, $0-0\na: RET\na: MOVQ AX,\n", (1, 3)),
+    ("TEXT f(SB), 4, $0-0\nMOVQ 8(FP), $1/0, (AX\n", (1, 2)),
+    ("MOVQ 8(DX), AX\n", (1, 1)),
+    ("BYTE $1,\n", (1, 1)),
+    ("TEXT f(SB), 1/0, $4\n", (1, 1)),
+    ("TEXT f(SB), 4, $0-0\na: RET\na: MOVQ 8(FP), AX\n", (2, 3)),
+    ("TEXT f(SB), 4, $0-0\na: RET\na: BYTE $1/0\n", (2, 3)),
+    ("TEXT f(SB), 4, $0-0\na: LOCK\nRET\na: LOCK\nMOVQ 8(FP), AX\n", (2, 4)),
+    ("TEXT f(SB), 4, $0-0\nBYTE 8(FP)\n", (4, 2)),
+    ("BYTE 8(FP), $1/0\n", (4, 1)),
+    ("TEXT f(SB), 1/0, $8\n", (5, 1)),
+    ("TEXT f(SB), 2%0|1, $0\nMOVQ AX,\n", (5, 1)),
+    ("DATA x+8(SB)/8, $1\nDATA x+1/0(SB)/8, $1\n", (6, 2)),
+    ("BYTE $1/0\n", (7, 1)),
+    ("MOVQ $1/0, AX\n", (7, 1)),
+    ("LONG $1\n", (9, 1)),
+    ("RET\nMOVQ AX,\n", (9, 1)),
+    ("RET\nTEXT f(SB), 0, $0\n", (9, 1)),
+    ("DATA x+0(SB)/8, $1\nGLOBL x(SB), $8\nLOCK; BYTE $1\n", (9, 3)),
+    ("TEXT f(SB), 4, $0-0\nBYTE $1\nMOVQ AX,\n", (10, 2)),
+    ("TEXT f(SB), 4, $0-0\nBYTE $1\na: a: RET\n", (10, 2)),
+    ("TEXT f(SB), 4, $0-0\nMOVQ $1/0, AX\nMOVQ 8(FP), AX\n", (7, 2)),
+    // What names stand for comes last, wherever it stands.
+    ("TEXT f(SB), 4, $0-0\nJMP b\nTEXT g(SB), 0, $0\n", (5, 3)),
+    ("TEXT f(SB), 4, $0-0\nJMP b\n\nMOVQ AX,\n", (1, 4)),
+    ("TEXT f(SB), 4, $0-0\nJMP 9(PC)\na: RET\na: RET\n", (2, 4)),
+    ("TEXT f(SB), 4, $0-0\nJMP 9(PC)\nJMP b\nMOVQ 8(FP), AX\n", (4, 4)),
+    ("TEXT f(SB), 4, $0-0\nJMP b\nBYTE b\n", (10, 3)),
+    ("TEXT f(SB), 4, $0-0\nJMP b\nRET\nJMP 9(PC)\n", (3, 2)),
+    (
+        "TEXT f(SB), 4, $0-0\nRET\nTEXT g(SB), 4, $0-0\nJMP 9(PC)\nTEXT h(SB), 4, $0-0\nJMP b\n",
+        (8, 4),
+    ),
+    (
+        "TEXT f(SB), 4, $0-0\nb: RET\nTEXT g(SB), 4, $0-0\nRET\nJMP b\nJMP -9(PC)\n",
+        (3, 5),
+    ),
+];
+
+#[test]
+fn the_first_refusal_counts(rt: HostRuntime) -> Result<(), Fail> {
+    for (source, expected) in FIRST {
+        assert_eq!(rt; refused(rt.alloc(), source.as_bytes())?, expected);
+    }
+    Ok(())
+}
+
 #[test]
 fn refusals_have_their_lines(rt: HostRuntime) -> Result<(), Fail> {
     for (source, expected) in REFUSED {
@@ -186,7 +235,7 @@ fn described(operand: &Operand) -> (u32, i64, i64, &[u8]) {
     }
 }
 
-const OPERANDS: [(&str, (u32, i64, i64, &str)); 36] = [
+const OPERANDS: [(&str, (u32, i64, i64, &str)); 40] = [
     ("$7", (0, 7, 0, "")),
     ("$1+2*3", (0, 7, 0, "")),
     ("$8-2-1", (0, 5, 0, "")),
@@ -223,6 +272,10 @@ const OPERANDS: [(&str, (u32, i64, i64, &str)); 36] = [
     ("R1>>63", (8, 1, 63, "R1")),
     ("R1->2+3", (8, 2, 5, "R1")),
     ("BX", (1, 0, 0, "BX")),
+    ("$f<>+8(SB)", (13, 8, 1, "")),
+    ("4*(1+1)(AX)", (2, 8, 0, "AX")),
+    ("(SP)(AX*1)", (2, 0, 1, "AX")),
+    ("$0x7fff", (0, 0x7FFF, 0, "")),
 ];
 
 #[test]

@@ -1,17 +1,39 @@
-use Rattle.std.proofs.Common.{◌≡◌, ap, ◌∙◌}
+use Rattle.std.proofs.Common.{◌≡◌, ◌≤◌, Err, length, ap, ◌∙◌, arith}
+use Rattle.std.specs.Prelude.{sum_by}
 use Rattle.std.proofs.lemmas.Result.{err_from_is_err_and}
 use Rattle.asm_parse.specs.Ahead.{seen}
 use Rattle.asm_parse.specs.Parse.{statements_of}
+use Rattle.asm_parse.proofs.FirstNames.{judged}
+use Rattle.asm_parse.proofs.KnownLemmas.{known_more}
+use Rattle.asm_parse.proofs.TotalLemmas.{total_within}
 use Rattle.asm_parse.proofs.ReadLemmas.{parsed_stops, parsed_on}
 use Rattle.asm_parse.proofs.parser.parse.Goals as goal
 
-pub returns-in_err-progress : goal.returns-in_err-progress
-returns-in_err-progress g c =
+pub returns-in_err-progress-clause-exact : goal.returns-in_err-progress-clause-exact
+returns-in_err-progress-clause-exact g c =
     let p = err_from_is_err_and c.from_residual-in_err-progress.result c.from_residual-in_err-progress.ensures.1 in
     let cut : seen c.as_slice-2.result.now ≡ statements_of c.args.tokens.now.list = ap seen c.as_slice-2.ensures.value ∙ c.in_ok-statements.ensures ∙ ap statements_of c.as_slice.ensures in
-    rw (p.1, p.2) (record { exact = λ word tells kept. parsed_stops word c.args.tokens.now.list (seen c.as_slice-2.result.now) c.in_err-progress.field-0.0 cut (c.in_err-progress.ensures word tells kept) })
+    rw (p.1, p.2) (λ word tells kept. parsed_stops word c.args.tokens.now.list (seen c.as_slice-2.result.now) c.in_err-progress.field-0.0 cut (c.in_err-progress.ensures.exact word tells kept))
 
-pub returns : goal.returns
-returns g c =
+pub returns-clause-exact : goal.returns-clause-exact
+returns-clause-exact g c =
     let cut : seen c.as_slice-2.result.now ≡ statements_of c.args.tokens.now.list = ap seen c.as_slice-2.ensures.value ∙ c.in_ok-statements.ensures ∙ ap statements_of c.as_slice.ensures in
-    record { exact = λ word tells. rw (parsed_on word c.args.tokens.now.list (seen c.as_slice-2.result.now) c.in_ok-progress.progress cut (c.in_ok-progress.ensures word tells)) (c.resolved.ensures word tells) }
+    λ word tells. rw (parsed_on word c.args.tokens.now.list (seen c.as_slice-2.result.now) c.in_ok-progress.progress cut (c.in_ok-progress.ensures.exact word tells)) (c.resolved.ensures.exact word tells)
+
+pub resolved-requires-clause-known : goal.resolved-requires-clause-known
+resolved-requires-clause-known g c =
+    let total = sum_by length (seen c.as_slice-2.result.now) in
+    let cut : seen c.as_slice-2.result.now ≡ statements_of c.args.tokens.now.list = ap seen c.as_slice-2.ensures.value ∙ c.in_ok-statements.ensures ∙ ap statements_of c.as_slice.ensures in
+    let few : total ≤ 4_000_000 = rw cut (omega (arith, total_within c.args.tokens.now.list, c.requires.few)) in
+    known_more total 4_000_000 c.in_ok-progress.progress few c.in_ok-progress.ensures.known
+
+pub returns-in_err-progress-clause-first : goal.returns-in_err-progress-clause-first
+returns-in_err-progress-clause-first g c =
+    let p = err_from_is_err_and c.from_residual-in_err-progress.result c.from_residual-in_err-progress.ensures.1 in
+    let cut : seen c.as_slice-2.result.now ≡ statements_of c.args.tokens.now.list = ap seen c.as_slice-2.ensures.value ∙ c.in_ok-statements.ensures ∙ ap statements_of c.as_slice.ensures in
+    rw (p.1, p.2) (λ word tells. judged word c.args.tokens.now.list (Err c.in_err-progress.field-0.0) (λ kept. parsed_stops word c.args.tokens.now.list (seen c.as_slice-2.result.now) c.in_err-progress.field-0.0 cut (c.in_err-progress.ensures.exact word tells kept)))
+
+pub returns-clause-first : goal.returns-clause-first
+returns-clause-first g c =
+    let cut : seen c.as_slice-2.result.now ≡ statements_of c.args.tokens.now.list = ap seen c.as_slice-2.ensures.value ∙ c.in_ok-statements.ensures ∙ ap statements_of c.as_slice.ensures in
+    λ word tells. judged word c.args.tokens.now.list c.resolved.result (rw (parsed_on word c.args.tokens.now.list (seen c.as_slice-2.result.now) c.in_ok-progress.progress cut (c.in_ok-progress.ensures.exact word tells)) (c.resolved.ensures.exact word tells))

@@ -1,4 +1,6 @@
-use Rattle.std.proofs.Common.{◌≡◌, ℕ, Bool, List, drop}
+use Rattle.std.proofs.Common.{◌≡◌, ℕ, Bool, List, length, take, drop}
+use Rattle.std.specs.Prelude.{sum_by}
+use Rattle.asm_parse.specs.Known.{IsKnown}
 use Rattle.asm_parse.specs.Words.{Tells}
 use Rattle.asm_parse.specs.Ahead.{seen, outlooks_back}
 use Rattle.asm_parse.specs.Steps.{steps}
@@ -9,4 +11,5 @@ invariant-loop-statement g l = record {
   ahead : l.outlooks.items ≡ outlooks_back (drop l.statement-index (seen l.statements));
   read : (word : List ℕ → Bool) → Tells (λ name answer. g.W.Fn.post l.is_word (name, tt) answer) word
       → steps word l.progress (drop l.statement-index (seen l.statements)) ≡ steps word l.fn.progress (seen l.statements);
+  known : IsKnown 0 l.fn.progress → IsKnown (sum_by length (take l.statement-index (seen l.statements))) l.progress;
 }
