@@ -1,5 +1,5 @@
 #!/usr/bin/env python3
-"""An independent reading of the Go 1.20 function table, for expected lines."""
+"""An independent reading of function tables in the Go 1.20 and the Go 1.18 form, for expected lines."""
 import os
 import struct
 def u32(b,o): return struct.unpack_from('<I',b,o)[0]
@@ -41,7 +41,7 @@ def text(b, at):
     if n < 0: raise Bad
     return b[at:n]
 def read(b):
-    if len(b) < 4 or u32(b,0) != 0xfffffff1: raise Fault('TB1 at 0')
+    if len(b) < 4 or u32(b,0) not in (0xfffffff1, 0xfffffff0): raise Fault('TB1 at 0')
     if len(b) < 72: raise Fault(f'TB2 at {len(b)}')
     if b[4] or b[5]: raise Fault('TB2 at 4')
     if b[6] not in (1,2,4): raise Fault('TB2 at 6')
@@ -53,9 +53,10 @@ def read(b):
     if pcln + 8*n + 4 > len(b): raise Fault('TB4 at 64')
     for k in range(n-1):
         if u32(b,pcln+8*k+8) < u32(b,pcln+8*k): raise Fault(f'TB3 at {pcln+8*k+8}')
+    size = 44 if b[0] == 0xf1 else 40
     for k in range(n):
         rec = pcln + u32(b,pcln+8*k+4)
-        if rec + 44 > len(b) or rec + 44 + 4*u32(b,rec+28) + 4*b[rec+43] > len(b): raise Fault(f'TB4 at {pcln+8*k+4}')
+        if rec + size > len(b) or rec + size + 4*u32(b,rec+28) + 4*b[rec+size-1] > len(b): raise Fault(f'TB4 at {pcln+8*k+4}')
         name = names + u32(b,rec+4)
         if name > len(b): raise Fault(f'TB4 at {rec+4}')
         if b.find(0,name) < 0: raise Fault(f'TB6 at {rec+4}')

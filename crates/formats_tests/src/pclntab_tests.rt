@@ -51,7 +51,8 @@ fn the_first_fault_is_named(rt: HostRuntime) {
     expect_no(&rt, &CAS, 71, TableNo::TB2(71));
     expect_no(&rt, &CAS, 183, TableNo::TB4(132));
     for (at, value, want) in [
-        (0, 0xF0, TableNo::TB1(0)),
+        (0, 0xF2, TableNo::TB1(0)),
+        (3, 0xFE, TableNo::TB1(0)),
         (4, 1, TableNo::TB2(4)),
         (6, 3, TableNo::TB2(6)),
         (7, 4, TableNo::TB2(7)),
@@ -67,4 +68,97 @@ fn the_first_fault_is_named(rt: HostRuntime) {
         bytes[at] = value;
         expect_no(&rt, &bytes, 184, want);
     }
+}
+
+#[test]
+fn an_address_past_the_greatest_text_is_refused(rt: HostRuntime) {
+    let mut bytes = CAS;
+    bytes[24..32].copy_from_slice(&[0xFF; 8]);
+    expect_no(&rt, &bytes, 184, TableNo::TB2(24));
+}
+
+// The same function in the Go 1.18 form: another magic number, and no line of the declaration in the record.
+fn old_form() -> [u8; 180] {
+    let mut bytes = [0; 180];
+    bytes[..176].copy_from_slice(&CAS[..176]);
+    bytes[176..].copy_from_slice(&CAS[180..]);
+    bytes[0] = 0xF0;
+    bytes
+}
+
+// Tests that the two tables answer alike at an address of their one function.
+fn expect_alike<R: Abort>(rt: &R, one: &[u8], other: &[u8], pc: u64) -> Result<(), Fail> {
+    assert!(rt; one.len() < 1 << 32 && other.len() < 1 << 32);
+    let (Ok(one), Ok(other)) = (Table::read(one), Table::read(other)) else {
+        return Err(Fail::from("no table"));
+    };
+    assert_eq!(rt; one.count(), other.count());
+    let one = one.find(pc).ok_or("no function")?;
+    let other = other.find(pc).ok_or("no function")?;
+    assert_eq!(rt; one.name(), other.name());
+    assert_eq!(rt; one.entry(), other.entry());
+    assert_eq!(rt; one.end(), other.end());
+    assert_eq!(rt; one.args(), other.args());
+    assert_eq!(rt; one.flags(), other.flags());
+    assert_eq!(rt; one.depth(pc), other.depth(pc));
+    assert_eq!(rt; one.line(pc), other.line(pc));
+    assert_eq!(rt;
+        one.file(pc).unwrap_or(b"?"),
+        other.file(pc).unwrap_or(b"?")
+    );
+    Ok(())
+}
+
+#[test]
+fn both_forms_answer_alike(rt: HostRuntime) -> Result<(), Fail> {
+    let old = old_form();
+    for pc in 0x40_0000..0x40_0020u64 {
+        expect_alike(&rt, &CAS, &old, pc)?;
+    }
+    // The flags stand before the line's place where the line isn't taken out, and are 0 there.
+    let mut line_kept = CAS;
+    line_kept[0] = 0xF0;
+    let Ok(table) = Table::read(&line_kept) else {
+        return Err(Fail::from("no table"));
+    };
+    let func = table.find(0x40_0011).ok_or("no function")?;
+    assert_eq!(rt; func.flags(), 0);
+    assert_eq!(rt; func.name(), b"main.Cas".as_slice());
+    assert_eq!(rt; func.line(0x40_0011), Answer::Value(8));
+    Ok(())
+}
+
+// Three functions that share the record: the first two at one entry, the third 16 bytes behind it.
+fn equal_entries() -> [u8; 200] {
+    let mut bytes = [0; 200];
+    bytes[..128].copy_from_slice(&CAS[..128]);
+    bytes[8] = 3;
+    for (at, number) in [(132, 28), (140, 28), (144, 16), (148, 28), (152, 32)] {
+        bytes[at] = number;
+    }
+    bytes[156..].copy_from_slice(&CAS[140..]);
+    bytes
+}
+
+#[test]
+fn equal_entries_are_kept_apart(rt: HostRuntime) -> Result<(), Fail> {
+    let bytes = equal_entries();
+    let Ok(table) = Table::read(&bytes) else {
+        return Err(Fail::from("no table"));
+    };
+    assert_eq!(rt; table.count(), 3);
+    for (pc, entry, end) in [
+        (0x40_0000, 0x40_0000, 0x40_0010),
+        (0x40_000F, 0x40_0000, 0x40_0010),
+        (0x40_0010, 0x40_0010, 0x40_0020),
+        (0x40_001F, 0x40_0010, 0x40_0020),
+    ] {
+        let func = table.find(pc).ok_or("no function")?;
+        assert_eq!(rt; func.entry(), entry);
+        assert_eq!(rt; func.end(), end);
+    }
+    assert!(rt; table.find(0x3F_FFFF).is_none());
+    assert!(rt; table.find(0x40_0020).is_none());
+    assert!(rt; table.find(u64::MAX).is_none());
+    Ok(())
 }

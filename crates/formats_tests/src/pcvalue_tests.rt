@@ -1,4 +1,7 @@
-use pcvalue::{Answer, is_pc_table, value_at};
+use pcvalue::{Answer, Run, encode, is_pc_table, value_at};
+use std::alloc::Global;
+use std::process::Abort;
+use std::test::Fail;
 
 // No table at 0, then the depths and the lines of a function of 23 bytes.
 const TABLES: [u8; 17] = [0, 2, 23, 0, 8, 5, 2, 4, 2, 4, 4, 4, 2, 5, 2, 1, 0];
@@ -65,4 +68,17 @@ fn tables_are_whole_up_to_their_end(rt: HostRuntime) {
     // A run that passes 2^32 - 1.
     assert!(rt; !is_pc_table(&[0, 2, 0xFF, 0xFF, 0xFF, 0xFF, 0x0F, 2, 1, 0], 1, 1));
     assert!(rt; is_pc_table(&[0, 2, 0xFF, 0xFF, 0xFF, 0xFF, 0x0F, 0], 1, 1));
+}
+
+// Tests what runs are written as.
+fn expect_encoded<R: Abort>(
+    rt: &R,
+    alloc: Global,
+    runs: &[Run],
+    quantum: u8,
+    want: &[u8],
+) -> Result<(), Fail> {
+    let bytes = encode(alloc, runs, quantum)?;
+    assert_eq!(rt; bytes.as_slice(), want);
+    Ok(())
 }

@@ -1,4 +1,5 @@
 mod TextLemmas
 mod PcLemmas
 mod RangeLemmas
+mod SearchLemmas
 mod Examples

@@ -1,21 +1,12 @@
-use Rattle.std.proofs.Common.{◌≡◌, ℕ, true, refl, zero, suc, ◌+◌, ◌<◌, ◌≤◌, List, Option, Some, None, IfSome, IfNone, inl, inr, arith}
+use Rattle.std.proofs.Common.{◌≡◌, ℕ, zero, suc, ◌+◌, ◌<◌, ◌≤◌, List, Option, Some, None, IfSome, IfNone, inl, inr, arith}
 use Rattle.std.proofs.lemmas.Bool.{cases_lt}
-use Rattle.goasm_base.specs.Refusals.{first_below}
-use Rattle.goasm_base.proofs.RefusalLemmas.{below_found}
 use Rattle.pclntab.specs.Places.{func_count, entry_offset}
 use Rattle.pclntab.specs.Table.{HasOrder}
-use Rattle.pclntab.specs.Func.{FuncView, HasPc, entry_of, has_pc, index_if}
+use Rattle.pclntab.specs.Func.{FuncView, HasPc, entry_of}
 use Rattle.pclntab.specs.Ready.{IsRead}
 
--- the first function that has an address
-pub index_found : (bytes : List ℕ) (pc index count : ℕ) → index < count
-    → first_below index (index_if bytes pc) ≡ None → has_pc bytes pc index ≡ true
-    → first_below count (index_if bytes pc) ≡ Some index
-index_found bytes pc index count inside before here =
-    below_found (index_if bytes pc) index count index inside before (rw here refl)
-
 -- entries rise
-rising : (bytes : List ℕ) (index later : ℕ)
+pub rising : (bytes : List ℕ) (index later : ℕ)
     → HasOrder bytes → index ≤ later → later < func_count bytes → entry_offset bytes index ≤ entry_offset bytes later
 rising bytes index zero order before within =
     let same : index ≡ 0 = omega arith in

@@ -6,7 +6,7 @@ use Rattle.pcvalue.specs.Table.{is_pc_table}
 use Rattle.pclntab.specs.declared.fault.TableNo.{TableNo}
 use Rattle.pclntab.specs.declared.fault.TableNo.TheVariants.{TB1, TB2, TB3, TB4, TB5, TB6}
 use Rattle.pclntab.specs.Words.{byte_at, u32_at}
-use Rattle.pclntab.specs.Places.{magic, header_size, zeros_field, quantum_field, pointer_size_field, text_start_field, names_start_field, units_start_field, files_start_field, pcs_start_field, funcs_start_field, quantum, pointer_size, func_count, text_start, names_start, units_start, files_start, pcs_start, funcs_start, pair_place, entry_offset, record_field, record_place, record_size, record_end, name_field, depth_field, file_field, line_field, name_place}
+use Rattle.pclntab.specs.Places.{magic, old_magic, header_size, zeros_field, quantum_field, pointer_size_field, text_start_field, names_start_field, units_start_field, files_start_field, pcs_start_field, funcs_start_field, quantum, pointer_size, func_count, text_start, names_start, units_start, files_start, pcs_start, funcs_start, pair_place, entry_offset, record_field, record_place, record_size, record_end, name_field, depth_field, file_field, line_field, name_place}
 use Rattle.pclntab.specs.Texts.{ends_at}
 use Rattle.pclntab.specs.Table.{pc_bytes}
 
@@ -16,7 +16,7 @@ unless test fault others = if test then others else Some fault
 
 unfoldable pub header_fault : List ℕ → Option TableNo
 header_fault bytes =
-    unless (nat_le 4 (length bytes) && u32_at bytes 0 == magic) (TB1 0)
+    unless (nat_le 4 (length bytes) && (u32_at bytes 0 == magic || u32_at bytes 0 == old_magic)) (TB1 0)
     (unless (nat_le header_size (length bytes)) (TB2 (length bytes))
     (unless (byte_at bytes zeros_field == 0 && byte_at bytes (zeros_field + 1) == 0) (TB2 zeros_field)
     (unless (quantum bytes == 1 || quantum bytes == 2 || quantum bytes == 4) (TB2 quantum_field)
@@ -42,7 +42,7 @@ order_fault bytes = first_below (func_count bytes - 1) (entry_fault bytes)
 
 unfoldable pub record_fault : List ℕ → ℕ → Option TableNo
 record_fault bytes index =
-    unless (nat_le (record_place bytes index + record_size) (length bytes)) (TB4 (record_field bytes index))
+    unless (nat_le (record_place bytes index + record_size bytes) (length bytes)) (TB4 (record_field bytes index))
     (unless (nat_le (record_end bytes index) (length bytes)) (TB4 (record_field bytes index)) None)
 
 unfoldable pub name_fault : List ℕ → ℕ → Option TableNo

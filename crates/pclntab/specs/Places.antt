@@ -3,11 +3,15 @@
 -- The header has 72 bytes: the magic number, two zero bytes, the quantum in which pc-value tables count places,
 -- the size of a pointer, the numbers of functions and of files, the address of the text, and the offsets of five
 -- tables, each of which reaches to the end of the bytes.
-use Rattle.std.specs.Prelude.{ℕ, List, ◌+◌, ◌*◌}
+use Rattle.std.specs.Prelude.{ℕ, List, ◌+◌, ◌*◌, ◌==◌, if◌then◌else◌}
 use Rattle.pclntab.specs.Words.{byte_at, u32_at, u64_at}
 
+-- the magic number of the Go 1.20 form, and that of the Go 1.18 form, whose records have no line of the declaration
 abbrev pub magic : ℕ
 magic = 0xFFFF_FFF1
+
+abbrev pub old_magic : ℕ
+old_magic = 0xFFFF_FFF0
 
 abbrev pub header_size : ℕ
 header_size = 72
@@ -85,12 +89,17 @@ record_field bytes index = pair_place bytes index + 4
 abbrev pub record_place : List ℕ → ℕ → ℕ
 record_place bytes index = funcs_start bytes + u32_at bytes (record_field bytes index)
 
+-- the size of the line of the declaration in a record
+unfoldable pub line_size : List ℕ → ℕ
+line_size bytes = if u32_at bytes 0 == old_magic then 0 else 4
+
 -- A record has 44 bytes: the entry offset, the name's offset, the size of the arguments, a field for deferred
 -- calls, the offsets of the depth, file and line tables, the number of further pc-value tables, the unit's offset,
 -- the line of the declaration, and four bytes, of which the second holds flags and the last the number of further
--- data. Behind it stands a word for each further table and for each further datum.
-abbrev pub record_size : ℕ
-record_size = 44
+-- data. In the Go 1.18 form it has 40 bytes, without the line. Behind it stands a word for each further table and for
+-- each further datum.
+abbrev pub record_size : List ℕ → ℕ
+record_size bytes = 40 + line_size bytes
 
 abbrev pub name_field : List ℕ → ℕ → ℕ
 name_field bytes index = record_place bytes index + 4
@@ -114,15 +123,15 @@ abbrev pub unit_field : List ℕ → ℕ → ℕ
 unit_field bytes index = record_place bytes index + 32
 
 abbrev pub flags_field : List ℕ → ℕ → ℕ
-flags_field bytes index = record_place bytes index + 41
+flags_field bytes index = record_place bytes index + 37 + line_size bytes
 
 abbrev pub data_field : List ℕ → ℕ → ℕ
-data_field bytes index = record_place bytes index + 43
+data_field bytes index = record_place bytes index + 39 + line_size bytes
 
 -- the first place behind a record and the words that belong to it
 abbrev pub record_end : List ℕ → ℕ → ℕ
 record_end bytes index =
-    record_place bytes index + record_size + 4 * u32_at bytes (tables_field bytes index) + 4 * byte_at bytes (data_field bytes index)
+    record_place bytes index + record_size bytes + 4 * u32_at bytes (tables_field bytes index) + 4 * byte_at bytes (data_field bytes index)
 
 abbrev pub name_place : List ℕ → ℕ → ℕ
 name_place bytes index = names_start bytes + u32_at bytes (name_field bytes index)

@@ -2,6 +2,7 @@
 use Rattle.std.specs.Prelude.{ℕ, List, ◌^◌, ◌<◌, ◌≤◌, length}
 use Rattle.pclntab.specs.Places.{header_size, func_count}
 use Rattle.pclntab.specs.Table.{HasTables, IsTable}
+use Rattle.pclntab.specs.Func.{entry_of}
 
 -- a table whose header is whole and whose five tables begin within the bytes
 pub record IsReady (bytes : List ℕ) : Type 0 where
@@ -23,3 +24,9 @@ pub record PcTablesView : Type 0 where
 pub record IsFuncOf (bytes : List ℕ) (index : ℕ) : Type 0 where
   pub table : IsRead bytes
   pub within : index < func_count bytes
+
+-- the functions below a number begin at or before an address, and those from it on behind the address
+pub record IsBegun (bytes : List ℕ) (pc count : ℕ) : Type 0 where
+  pub within : count ≤ func_count bytes
+  pub begun : (index : ℕ) → index < count → entry_of bytes index ≤ pc
+  pub later : (index : ℕ) → count ≤ index → index < func_count bytes → pc < entry_of bytes index

@@ -1,13 +1,13 @@
--- What a function table in the Go 1.20 form is.
+-- What a function table is, in the Go 1.20 form or in the Go 1.18 form.
 use Rattle.std.specs.Prelude.{◌≡◌, ◌⊎◌, ℕ, List, ◌+◌, ◌-◌, ◌^◌, ◌<◌, ◌≤◌, length, drop, IsTrue}
 use Rattle.pcvalue.specs.Table.{IsPcTable}
 use Rattle.pclntab.specs.Words.{byte_at, u32_at}
-use Rattle.pclntab.specs.Places.{magic, header_size, zeros_field, quantum, pointer_size, func_count, text_start, names_start, units_start, files_start, pcs_start, funcs_start, pair_place, entry_offset, record_place, record_size, record_end, depth_field, file_field, line_field, name_place}
+use Rattle.pclntab.specs.Places.{magic, old_magic, header_size, zeros_field, quantum, pointer_size, func_count, text_start, names_start, units_start, files_start, pcs_start, funcs_start, pair_place, entry_offset, record_place, record_size, record_end, depth_field, file_field, line_field, name_place}
 use Rattle.pclntab.specs.Texts.{ends_at}
 
 -- a header for a 64-bit program whose places count quanta of 1, 2 or 4 bytes, and whose addresses don't pass 2 ^ 64
 pub record IsHeader (bytes : List ℕ) : Type 0 where
-  pub magic : u32_at bytes 0 ≡ magic
+  pub magic : (u32_at bytes 0 ≡ magic) ⊎ (u32_at bytes 0 ≡ old_magic)
   pub length : header_size ≤ length bytes
   pub zeros : (byte_at bytes zeros_field ≡ 0) × (byte_at bytes (zeros_field + 1) ≡ 0)
   pub quantum : (quantum bytes ≡ 1) ⊎ (quantum bytes ≡ 2) ⊎ (quantum bytes ≡ 4)
@@ -38,7 +38,7 @@ NamesPcTable bytes field = IsPcTable (pc_bytes bytes) (u32_at bytes field) (quan
 
 -- a function's record and the words behind it lie within the bytes
 pub record HasRecord (bytes : List ℕ) (index : ℕ) : Type 0 where
-  pub fits : record_place bytes index + record_size ≤ length bytes
+  pub fits : record_place bytes index + record_size bytes ≤ length bytes
   pub words : record_end bytes index ≤ length bytes
 
 -- its name does too, up to a zero byte

@@ -4,7 +4,7 @@ use thiserror::Error;
 /// the bytes of the field at fault.
 #[derive(Clone, Copy, Debug, PartialEq, Eq, Error)]
 pub enum TableNo {
-    /// The first four bytes aren't the magic number of the Go 1.20 form.
+    /// The first four bytes are neither the magic number of the Go 1.20 form nor that of the Go 1.18 form.
     #[error("TB1 at {0}")]
     TB1(u64),
     /// The header is cut short, at the length, or a field of it has a value that it can't have.

@@ -12,15 +12,13 @@ use crate::fault::TableNo;
 use crate::names;
 use crate::pc_tables::PcTables;
 use crate::places::{
-    self, FILES_START_FIELD, FUNCS_START_FIELD, HEADER_SIZE, NAMES_START_FIELD, PCS_START_FIELD,
-    POINTER_SIZE_FIELD, QUANTUM_FIELD, RECORD_SIZE, TEXT_START_FIELD, UNITS_START_FIELD,
+    self, FILES_START_FIELD, FUNCS_START_FIELD, HEADER_SIZE, MAGIC, NAMES_START_FIELD, OLD_MAGIC,
+    PCS_START_FIELD, POINTER_SIZE_FIELD, QUANTUM_FIELD, TEXT_START_FIELD, UNITS_START_FIELD,
     ZEROS_FIELD,
 };
 use crate::words::u32_at;
 use goasm_base::behind;
 use memchr::memrchr;
-
-const MAGIC: u32 = 0xFFFF_FFF1;
 
 // The greatest address at which a text may begin: offsets from it have 32 bits.
 const LAST_TEXT_START: u64 = u64::MAX - u32::MAX as u64;
@@ -43,7 +41,7 @@ fn judge_header(bytes: &[u8]) -> Result<(), TableNo>
     ensures exact { Judges result (header_fault bytes.now) }
     ensures form { MatchResult result (λ _. IsHeader bytes.now) (λ _. IsHeader bytes.now → ⊥) }
 {
-    if bytes.len() < 4 || u32_at(bytes, 0) != MAGIC {
+    if bytes.len() < 4 || !matches!(u32_at(bytes, 0), MAGIC | OLD_MAGIC) {
         return Err(TableNo::TB1(0));
     }
     if bytes.len() < HEADER_SIZE {
@@ -174,7 +172,7 @@ fn judge_record(bytes: &[u8], index: u32) -> Result<(), TableNo>
     ensures form { MatchResult result (λ _. HasRecord bytes.now index) (λ _. HasRecord bytes.now index → ⊥) }
 {
     let field = places::record_field(bytes, index) as u64;
-    if bytes.len() < places::record_place(bytes, index) + RECORD_SIZE {
+    if bytes.len() < places::record_place(bytes, index) + places::record_size(bytes) {
         return Err(TableNo::TB4(field));
     }
     if bytes.len() < places::record_end(bytes, index) {
@@ -187,7 +185,7 @@ fn judge_record(bytes: &[u8], index: u32) -> Result<(), TableNo>
 fn judge_name(bytes: &[u8], index: u32, last_zero: Option<usize>) -> Result<(), TableNo>
     requires ready { IsReady bytes.now }
     requires index { index < func_count bytes.now }
-    requires fits { record_place bytes.now index + record_size ≤ length bytes.now }
+    requires fits { record_place bytes.now index + record_size bytes.now ≤ length bytes.now }
     requires last { IsLastByte (is_byte 0) bytes.now last_zero }
     ensures exact { Judges result (name_fault bytes.now index) }
     ensures form { MatchResult result (λ _. HasName bytes.now index) (λ _. HasName bytes.now index → ⊥) }

@@ -1,5 +1,5 @@
-//! The function table of a Go program in the form that Go 1.20 writes: for each function its name and its
-//! tables of stack depths, files and lines (`pclntab`; Go's `runtime/symtab.go` and `internal/abi/symtab.go`).
+//! The function table of a Go program in the form that Go 1.20 writes, or in that of Go 1.18: for each function its name
+//! and its tables of stack depths, files and lines (`pclntab`; Go's `runtime/symtab.go` and `internal/abi/symtab.go`).
 #![tactic(auto)]
 
 mod fault;

@@ -8,7 +8,13 @@ use crate::words::{u32_at, u64_at};
 
 pub const HEADER_SIZE: usize = 72;
 
-pub const RECORD_SIZE: usize = 44;
+/// The size of a record without the line of the declaration.
+pub const RECORD_BASE: usize = 40;
+
+pub const MAGIC: u32 = 0xFFFF_FFF1;
+
+/// The magic number of the Go 1.18 form.
+pub const OLD_MAGIC: u32 = 0xFFFF_FFF0;
 
 // Where the fields of the header stand.
 pub const ZEROS_FIELD: usize = 4;
@@ -92,6 +98,24 @@ pub fn funcs_start(bytes: &[u8]) -> u64
     ensures { result ≡ spec.funcs_start bytes.now }
 {
     u64_at(bytes, FUNCS_START_FIELD)
+}
+
+/// The size of the line of the declaration in a record: the Go 1.18 form has none.
+#[tactic(auto, unfolding(crate::specs::Places::line_size))]
+fn line_size(bytes: &[u8]) -> usize
+    requires { header_size ≤ length bytes.now }
+    ensures size { result ≡ spec.line_size bytes.now }
+    ensures short { result ≤ 4 }
+{
+    if u32_at(bytes, 0) == OLD_MAGIC { 0 } else { 4 }
+}
+
+pub fn record_size(bytes: &[u8]) -> usize
+    requires { header_size ≤ length bytes.now }
+    ensures size { result ≡ spec.record_size bytes.now }
+    ensures short { result ≤ 44 }
+{
+    RECORD_BASE + line_size(bytes)
 }
 
 pub fn pair_place(bytes: &[u8], index: u32) -> usize
@@ -190,7 +214,7 @@ pub fn flags_field(bytes: &[u8], index: u32) -> usize
     requires index { index < spec.func_count bytes.now }
     ensures { result ≡ spec.flags_field bytes.now index }
 {
-    record_place(bytes, index) + 41
+    record_place(bytes, index) + 37 + line_size(bytes)
 }
 
 pub fn data_field(bytes: &[u8], index: u32) -> usize
@@ -198,25 +222,25 @@ pub fn data_field(bytes: &[u8], index: u32) -> usize
     requires index { index < spec.func_count bytes.now }
     ensures { result ≡ spec.data_field bytes.now index }
 {
-    record_place(bytes, index) + 43
+    record_place(bytes, index) + 39 + line_size(bytes)
 }
 
 /// The first place behind a record and the words that belong to it.
 pub fn record_end(bytes: &[u8], index: u32) -> usize
     requires ready { IsReady bytes.now }
     requires index { index < spec.func_count bytes.now }
-    requires fits { spec.record_place bytes.now index + record_size ≤ length bytes.now }
+    requires fits { spec.record_place bytes.now index + record_size bytes.now ≤ length bytes.now }
     ensures { result ≡ spec.record_end bytes.now index }
 {
     let tables = u32_at(bytes, tables_field(bytes, index)) as usize;
     let data = usize::from(bytes[data_field(bytes, index)]);
-    record_place(bytes, index) + RECORD_SIZE + 4 * tables + 4 * data
+    record_place(bytes, index) + record_size(bytes) + 4 * tables + 4 * data
 }
 
 pub fn name_place(bytes: &[u8], index: u32) -> usize
     requires ready { IsReady bytes.now }
     requires index { index < spec.func_count bytes.now }
-    requires fits { spec.record_place bytes.now index + record_size ≤ length bytes.now }
+    requires fits { spec.record_place bytes.now index + record_size bytes.now ≤ length bytes.now }
     ensures { result ≡ spec.name_place bytes.now index }
 {
     names_start(bytes) as usize + u32_at(bytes, name_field(bytes, index)) as usize

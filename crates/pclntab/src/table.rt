@@ -4,6 +4,7 @@ ghost use Rattle.pclntab.specs.Places.{func_count};
 ghost use Rattle.pclntab.specs.Table.{IsTable};
 ghost use Rattle.pclntab.specs.Faults.{Judges, table_fault};
 ghost use Rattle.pclntab.specs.Func.{HasPc, entry_of, func_at};
+ghost use Rattle.pclntab.specs.Ready.{IsBegun};
 
 use crate::fault::TableNo;
 use crate::func::Func;
@@ -29,8 +30,8 @@ impl<'a> Model for Table<'a> {
 }
 
 impl<'a> Table<'a> {
-    /// Reads the table that the bytes are, and keeps the slice. It is refused exactly where the bytes are no
-    /// table in the Go 1.20 form, with their first fault in the order of reading.
+    /// Reads the table that the bytes are, and keeps the slice. It is refused exactly where the bytes are no table, in the
+    /// Go 1.20 form or in the Go 1.18 form, with their first fault in the order of reading.
     pub fn read(bytes: &'a [u8]) -> Result<Table<'a>, TableNo>
         requires { length bytes.now < 2 ^ 32 }
         ensures table { IfOk result (λ table. table ≡ bytes.now) }
@@ -69,21 +70,40 @@ impl<'a> Table<'a> {
         ensures covered { IfNone result (entry_of self.now 0 ≤ pc → entry_of self.now (func_count self.now) ≤ pc) }
     {
         let _ = &self.bytes;
-        self.scan(pc)
+        self.search(pc)
     }
 
-    #[tactic(auto, unfolding(crate::specs::Func::func_at), using(goasm_base::proofs::RefusalLemmas::below_zero, goasm_base::proofs::RefusalLemmas::below_next, crate::proofs::RangeLemmas::index_found))]
-    fn scan(&self, pc: u64) -> Option<Func<'a>>
+    // Only the last function that begins at or before the address can have it. Of equal entries that is the last one; the
+    // ranges of the others are empty.
+    #[tactic(auto, using(crate::proofs::SearchLemmas::before_all, crate::proofs::SearchLemmas::last_found, crate::proofs::SearchLemmas::last_without))]
+    fn search(&self, pc: u64) -> Option<Func<'a>>
         ensures exact { result ≡ option_map (λ index. record { bytes = self.now; index = index }) (func_at self.now pc) }
         ensures some { IfSome result (λ func. (func.index < func_count self.now) × HasPc self.now func.index pc) }
         ensures none { IfNone result ((index : ℕ) → index < func_count self.now → HasPc self.now index pc → ⊥) }
     {
-        for index in 0..self.count() {
-            let func = self.at(index);
-            if func.has(pc) {
-                return Some(func);
+        let begun = self.begun_by(pc);
+        if begun == 0 {
+            return None;
+        }
+        let last = self.at(begun - 1);
+        if last.has(pc) { Some(last) } else { None }
+    }
+
+    // How many functions begin at or before the address.
+    fn begun_by(&self, pc: u64) -> u32
+        ensures { IsBegun self.now pc result }
+    {
+        let _ = &self.bytes;
+        let mut low = 0;
+        let mut high = self.count();
+        while low < high {
+            let middle = low + (high - low) / 2;
+            if self.at(middle).entry() <= pc {
+                low = middle + 1;
+            } else {
+                high = middle;
             }
         }
-        None
+        low
     }
 }

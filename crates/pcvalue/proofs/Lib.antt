@@ -1,3 +1,6 @@
 mod TableLemmas
 mod ValueLemmas
+mod WritingLemmas
+mod LeastLemmas
+mod PushLemmas
 mod Examples

@@ -1,4 +1,4 @@
-use Rattle.std.proofs.Common.{◌≡◌, ℕ, zero, suc, ℤ, ◌+◌, ◌*◌, ◌^◌, ◌<◌, ◌≤◌, ◌==◌, ◌+ℤ◌, Bool, true, false, not, ◌&&◌, nat_lt, List, [], ◌∷◌, length, drop, inl, inr, refl, sym, ap, ◌∙◌, arith}
+use Rattle.std.proofs.Common.{◌≡◌, ℕ, zero, suc, ℤ, ◌+◌, ◌*◌, ◌^◌, ◌<◌, ◌≤◌, ◌==◌, ◌+ℤ◌, Bool, true, false, not, ◌&&◌, nat_lt, List, [], ◌∷◌, ◌++◌, length, drop, inl, inr, refl, sym, ap, ◌∙◌, arith}
 use Rattle.std.proofs.lemmas.Bool.{le-ltb, lt-ltb, cases_lt}
 use Rattle.std.proofs.lemmas.Bool.Decides.{nat_tests}
 use Rattle.pcvalue.specs.declared.run.Run.{Run}
@@ -6,7 +6,9 @@ use Rattle.pcvalue.specs.declared.answer.Answer.TheVariants.{Value}
 use Rattle.pcvalue.specs.Varint.{varint}
 use Rattle.pcvalue.specs.Runs.{Point, Reading, Another, Finished, Fault, Runs, zigzag, fits_i32, or_fault, run_over, run_by, next_run, runs_from, runs_within, runs_of, start}
 use Rattle.pcvalue.specs.Table.{value_of, answer_of, runs_at, value_in, HasValue}
+use Rattle.pcvalue.specs.Writing.{table_bytes, AreRuns}
 use Rattle.pcvalue.proofs.TableLemmas.{or_fault_another, guarded, unfinished}
+use Rattle.pcvalue.proofs.WritingLemmas.{table_stands}
 
 -- no run ends before the one that stands before it
 Rises : ℕ → List Run → Type 0
@@ -116,3 +118,11 @@ has_value table offset quantum place value some has =
     looked_up table offset quantum place some
     ∙ has_found 0 place (runs_at table offset quantum).runs (runs_at table offset quantum).whole value
     (of_rises quantum (drop offset table)) has
+
+-- in a table that was written, a look-up finds the values of its runs
+pub values_stand : (quantum : ℕ) (runs : List Run) (table more : List ℕ) (offset place : ℕ) → AreRuns quantum runs
+    → drop offset table ≡ table_bytes quantum runs ++ more → 0 < offset
+    → value_in table offset quantum place ≡ value_of place runs true
+values_stand quantum runs table more offset place are stands some =
+    looked_up table offset quantum place some
+    ∙ ap (answer_of place) (table_stands quantum runs table more offset are stands)

@@ -7,7 +7,9 @@ mod lookup;
 mod run;
 mod step;
 mod varint;
+mod writing;
 
 pub use answer::Answer;
 pub use lookup::{is_pc_table, value_at};
 pub use run::Run;
+pub use writing::encode;

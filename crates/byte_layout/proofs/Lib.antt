@@ -1,0 +1,4 @@
+pub mod StandsLemmas
+pub mod JoinedLemmas
+pub mod PushedLemmas
+mod Examples
