@@ -21,3 +21,16 @@ ends_before sizes = record {
   strings = aligned-le 8 (strings_end sizes);
   labels = aligned-le 8 (labels_end sizes);
 }
+
+-- the loaded parts end where the values do
+pub record AreLoaded (sizes : Sizes) (end : ℕ) : Type 0 where
+  pub text : text_end sizes ≤ table_offset sizes
+  pub table : table_end sizes ≤ values_offset sizes
+  pub values : values_offset sizes ≤ end
+
+pub loaded_before : (sizes : Sizes) → AreLoaded sizes (values_end sizes)
+loaded_before sizes = record {
+  text = aligned-le 4096 (text_end sizes);
+  table = aligned-le 4096 (table_end sizes);
+  values = omega arith;
+}

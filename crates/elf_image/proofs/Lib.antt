@@ -1,2 +1,6 @@
 pub mod LayoutLemmas
 pub mod SymbolLemmas
+pub mod RowLemmas
+pub mod StageLemmas
+pub mod AgreeLemmas
+

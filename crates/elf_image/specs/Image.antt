@@ -45,6 +45,12 @@ pub record HasSections (bytes : List ℕ) : Type 0 where
     (section_rows (labels_section (labels_offset (sizes_in bytes)) (Labels (labels_offset (sizes_in bytes)) (sections_in bytes))))
   pub next : sections_in bytes ≡ sections_offset (sizes_in bytes)
 
+-- what the later steps of reading know from the earlier ones: the section headers stand behind the parts, within the bytes
+pub record IsReady (bytes : List ℕ) : Type 0 where
+  pub within : sections_in bytes + sections_size ≤ length bytes
+  pub next : sections_in bytes ≡ sections_offset (sizes_in bytes)
+  pub symbols : symbol_size ≤ (sizes_in bytes).symbols
+
 -- zeros from a place to another
 abbrev pub HasZeros : List ℕ → ℕ → ℕ → Type 0
 HasZeros bytes from to = HasRows bytes from (byte_rows (replicate (to - from) 0))

@@ -4,6 +4,7 @@
 mod fault;
 mod group;
 mod headers;
+mod judge;
 mod layout;
 mod parts;
 mod rows;
