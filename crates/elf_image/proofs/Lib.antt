@@ -4,3 +4,5 @@ pub mod RowLemmas
 pub mod StageLemmas
 pub mod AgreeLemmas
 
+pub mod GapLemmas
+pub mod ImageLemmas

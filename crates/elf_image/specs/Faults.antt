@@ -109,10 +109,17 @@ abbrev pub read_fault : List ℕ → Result Reading ℕ → Option ImageNo
 read_fault bytes (Ok last) = end_fault bytes last
 read_fault bytes (Err at) = Some (I3 at)
 
+-- of the first symbol, which is none
+unfoldable pub null_fault : List ℕ → Option ImageNo
+null_fault bytes = field_at (rows_fault bytes (symbols_offset (sizes_in bytes)) null_symbol) (I3 (symbols_offset (sizes_in bytes)))
+
+-- of the others
+unfoldable pub others_fault : List ℕ → Option ImageNo
+others_fault bytes =
+    read_fault bytes (symbols_read (names_in bytes) bytes (entry_in bytes) (count_in bytes) first_reading (symbols_start bytes))
+
 unfoldable pub symbols_fault : List ℕ → Option ImageNo
-symbols_fault bytes =
-    option_or (field_at (rows_fault bytes (symbols_offset (sizes_in bytes)) null_symbol) (I3 (symbols_offset (sizes_in bytes))))
-    (read_fault bytes (symbols_read (names_in bytes) bytes (entry_in bytes) (count_in bytes) first_reading (symbols_start bytes)))
+symbols_fault bytes = option_or (null_fault bytes) (others_fault bytes)
 
 -- the bytes end with the section headers
 unfoldable pub length_fault : List ℕ → Option ImageNo

@@ -3,11 +3,14 @@
 
 mod fault;
 mod group;
+mod gaps;
 mod headers;
+mod image;
 mod judge;
 mod layout;
 mod parts;
 mod rows;
+mod symbol_table;
 mod symbols;
 
 pub use fault::ImageNo;
