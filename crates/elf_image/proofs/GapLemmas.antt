@@ -26,10 +26,10 @@ unfolding byte_rows
 no_more bytes at = refl
 
 module _ (bytes : List ℕ) (to : ℕ) where
-  more_zeros : (at : ℕ) → at < to → replicate (to - at) 0 ≡ 0 ∷ replicate (to - (at + 1)) 0
+  more_zeros : (at : ℕ) → at < to → replicate {A = ℕ} (to - at) 0 ≡ 0 ∷ replicate (to - (at + 1)) 0
   more_zeros at inside =
       let one : to - at ≡ suc (to - (at + 1)) = omega arith in
-      ap (λ n. replicate n 0) one
+      ap (λ n. replicate {A = ℕ} n 0) one
 
   pub zero_next : (at : ℕ) → at < to → number_at bytes at Char ≡ 0
       → rows_fault bytes at (byte_rows (replicate (to - at) 0)) ≡ rows_fault bytes (at + 1) (byte_rows (replicate (to - (at + 1)) 0))
