@@ -6,3 +6,4 @@ pub mod AgreeLemmas
 
 pub mod GapLemmas
 pub mod ImageLemmas
+pub mod OutsideLemmas

@@ -1,5 +1,5 @@
 -- What an image tells.
-use Rattle.std.specs.Prelude.{◌≡◌, ℕ, zero, suc, Bool, List, [], ◌∷◌, ◌+◌, ◌==◌, take, drop, length, map, filter, position, Option, Some, None}
+use Rattle.std.specs.Prelude.{◌≡◌, ℕ, zero, suc, Bool, List, [], ◌∷◌, ◌+◌, ◌-◌, ◌*◌, ◌≤◌, ◌==◌, take, drop, length, map, filter, position, Option, Some, None}
 use Rattle.elf_image.specs.declared.group.Group.TheVariants.{Outside}
 use Rattle.elf_image.specs.declared.rows.Width.TheVariants.{Char, Word, Xword}
 use Rattle.elf_image.specs.declared.parts.SymbolPart.{SymbolPart}
@@ -8,7 +8,7 @@ use Rattle.elf_image.specs.Groups.{info_of}
 use Rattle.elf_image.specs.Rows.{number_at, symbol_size}
 use Rattle.elf_image.specs.Layout.{text_offset, table_offset, values_offset, address_of, machine_in, entry_in, sizes_in}
 use Rattle.elf_image.specs.Symbols.{is_zero}
-use Rattle.elf_image.specs.Image.{names_in, count_in, symbols_start}
+use Rattle.elf_image.specs.Image.{names_in, count_in, symbols_start, IsImage}
 
 -- the parts that are loaded
 abbrev pub text_in : List ℕ → List ℕ
@@ -53,6 +53,17 @@ symbol_at bytes at = (name_in (names_in bytes) (number_at bytes at Word), number
 -- the symbols that lie outside the image, in their order
 unfoldable pub outside_in : List ℕ → List (List ℕ × ℕ)
 outside_in bytes = map (symbol_at bytes) (filter (lies_outside bytes) (symbol_places (count_in bytes) (symbols_start bytes)))
+
+-- a symbol from which on all lie outside, and before which none does
+pub record IsFirstOutside (bytes : List ℕ) (first : ℕ) : Type 0 where
+  pub within : first ≤ count_in bytes
+  pub all : outside_in bytes
+    ≡ map (symbol_at bytes) (symbol_places (count_in bytes - first) (symbols_start bytes + symbol_size * first))
+
+-- an image that was read
+pub record IsRead (bytes : List ℕ) (first : ℕ) : Type 0 where
+  pub image : IsImage bytes
+  pub outside : IsFirstOutside bytes first
 
 -- the same of the parts of which an image is written
 abbrev pub outside_of : List SymbolPart → List (List ℕ × ℕ)

@@ -20,6 +20,8 @@ pub const TEXT_OFFSET: u64 = 4096;
 /// What the address of a loaded part has more than its place.
 pub const ADDRESS_BEHIND_OFFSET: u64 = 0x3F_F000;
 
+pub const MACHINE_PLACE: usize = 18;
+
 pub const ENTRY_PLACE: u64 = 24;
 
 pub const SECTIONS_PLACE: u64 = 40;

@@ -8,10 +8,12 @@ mod headers;
 mod image;
 mod judge;
 mod layout;
+mod outside;
 mod parts;
 mod rows;
 mod symbol_table;
 mod symbols;
 
 pub use fault::ImageNo;
+pub use image::{Image, view};
 pub use parts::{ImageParts, SymbolPart};
