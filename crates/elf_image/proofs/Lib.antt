@@ -7,3 +7,6 @@ pub mod AgreeLemmas
 pub mod GapLemmas
 pub mod ImageLemmas
 pub mod OutsideLemmas
+pub mod WrittenRowLemmas
+pub mod LaidLemmas
+pub mod GroupLemmas
