@@ -10,3 +10,5 @@ pub mod OutsideLemmas
 pub mod WrittenRowLemmas
 pub mod LaidLemmas
 pub mod GroupLemmas
+pub mod NameLemmas
+pub mod PartLemmas
