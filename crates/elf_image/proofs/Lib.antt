@@ -12,3 +12,4 @@ pub mod LaidLemmas
 pub mod GroupLemmas
 pub mod NameLemmas
 pub mod PartLemmas
+pub mod FoundLemmas

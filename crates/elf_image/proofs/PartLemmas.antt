@@ -1,8 +1,9 @@
 -- Symbols that were written are read back.
-use Rattle.std.proofs.Common.{◌≡◌, ℕ, zero, suc, ◌+◌, ◌-◌, ◌<◌, ◌≤◌, ◌^◌, Bool, true, false, ◌&&◌, ◌||◌, not, nat_le, nat_lt, nat_eq, List, [], ◌∷◌, ◌++◌, length, map, filter, Option, Some, None, IsTrue, if◌then◌else◌, inl, inr, refl, sym, ◌∙◌, ap, subst, arith, length-append}
+use Rattle.std.proofs.Common.{◌≡◌, ℕ, zero, suc, ◌+◌, ◌-◌, ◌*◌, ◌<◌, ◌≤◌, ◌^◌, Bool, true, false, ◌&&◌, ◌||◌, not, nat_le, nat_lt, nat_eq, List, [], ◌∷◌, ◌++◌, length, map, filter, Option, Some, None, IsTrue, if◌then◌else◌, inl, inr, refl, sym, ◌∙◌, ap, subst, arith, length-append, add_assoc}
 use Rattle.std.specs.Prelude.{All, count_by}
 use Rattle.std.specs.List.{flat_map, list_any}
-use Rattle.std.proofs.lemmas.Bool.{cases_Bool, lt-ltb, le-leb, eq-eqb, eqb-true, eqb-false, ne_eqb, and_parts}
+use Rattle.std.proofs.lemmas.Bool.{cases_Bool, or_cases, lt-ltb, le-leb, eq-eqb, eqb-true, eqb-false, ne_eqb, and_parts}
+use Rattle.std.proofs.lemmas.List.Sums.{sum_by-cons}
 use Rattle.std.proofs.lemmas.List.Elements.{All-head, All-tail}
 use Rattle.byte_layout.specs.Stands.{Stands}
 use Rattle.byte_layout.proofs.StandsLemmas.{stands_front, stands_back, stands_moved}
@@ -243,15 +244,33 @@ or_none : (a : Bool) → (a || false) ≡ a
 or_none true = refl
 or_none false = refl
 
-counted : (b : Bool) (n m : ℕ) → n + (if b then 1 else 0) + m ≡ n + ((if b then 1 else 0) + m)
-counted b n m = omega arith
-
 pub parts_end : (entry : ℕ) (reading : Reading) (parts : List SymbolPart) → EndsAs entry reading parts
 parts_end entry reading [] = record { place = omega arith; locals = omega arith; entered = sym (or_none reading.entered) }
 parts_end entry reading (part ∷ parts) =
     let rest = parts_end entry (next_reading entry reading (group_of_part part) part.at (reading.place + length part.name + 1)) parts in
     record {
       place = omega (arith, rest.place, length-append (name_bytes part) (flat_map name_bytes parts), length-append part.name (0 ∷ []));
-      locals = rest.locals ∙ ?;
+      locals = rest.locals
+        ∙ add_assoc reading.locals (if is_local (group_of_part part) then 1 else 0) (count_by (λ p. is_local (group_of_part p)) parts)
+        ∙ ap (λ n. reading.locals + n) (sym (sum_by-cons (λ p. if is_local (group_of_part p) then 1 else 0) part parts));
       entered = rest.entered ∙ or_either reading.entered (is_entry entry part) (list_any (is_entry entry) parts);
     }
+
+pub length_parts : (place : ℕ) (parts : List SymbolPart) → length (parts_bytes place parts) ≡ 24 * length parts
+length_parts place [] = refl
+length_parts place (part ∷ parts) =
+    let rest = length_parts (place + length part.name + 1) parts in
+    let here = length_rows (part_rows place part) in
+    omega (arith, rest, here, length-append (rows_bytes (part_rows place part)) (parts_bytes (place + length part.name + 1) parts))
+
+-- the entry is an address
+pub entry_fits : (entry : ℕ) (parts : List SymbolPart) → All IsPart parts → list_any (is_entry entry) parts ≡ true → entry < 2 ^ 64
+entry_fits entry [] all some = cc
+entry_fits entry (part ∷ parts) all some =
+    elim (or_cases (is_entry entry part) (list_any (is_entry entry) parts) some) [
+      | inl here ↦
+          let same : part.at ≡ entry = eqb-true part.at entry (and_parts (is_function (group_of_part part)) (nat_eq part.at entry) here).1 in
+          let fits : part.at < 2 ^ 64 = (All-head IsPart part parts all).address in
+          omega arith
+      | inr later ↦ entry_fits entry parts (All-tail IsPart part parts all) later
+    ]
