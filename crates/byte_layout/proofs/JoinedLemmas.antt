@@ -1,7 +1,8 @@
 -- Where joined parts stand, and what stands between them.
-use Rattle.std.proofs.Common.{◌≡◌, ℕ, zero, suc, ◌+◌, ◌-◌, ◌<◌, ◌≤◌, List, [], ◌∷◌, ◌++◌, length, take, get_or, ◌∙◌, ap, arith, length-append}
+use Rattle.std.proofs.Common.{◌≡◌, ℕ, zero, suc, ◌+◌, ◌-◌, ◌*◌, ◌/◌, ◌%◌, ◌<◌, ◌≤◌, List, [], ◌∷◌, ◌++◌, length, take, get_or, ◌∙◌, ap, arith, length-append}
 use Rattle.std.specs.Prelude.{replicate}
 use Rattle.std.proofs.lemmas.List.{length-replicate}
+use Rattle.std.proofs.Math.Nat.{mod-lt, mod-add-div', add-mod-mod, add-mod_right, mul-mod_left}
 use Rattle.byte_layout.specs.Stands.{Stands}
 use Rattle.byte_layout.specs.Joined.{gap, aligned, padded, joined, places, ends}
 use Rattle.byte_layout.proofs.StandsLemmas.{stands_all, stands_begun, stands_front, stands_back, stands_longer, stands_moved}
@@ -9,6 +10,24 @@ use Rattle.byte_layout.proofs.StandsLemmas.{stands_all, stands_begun, stands_fro
 pub aligned-le : (unit at : ℕ) → at ≤ aligned unit at
 unfolding aligned
 aligned-le unit at = omega arith
+
+-- it is a multiple of the unit
+pub aligned_whole : (unit at : ℕ) → 0 < unit → aligned unit at % unit ≡ 0
+unfolding aligned
+aligned_whole unit at some =
+    let below : at % unit < unit = mod-lt at some in
+    let split : at + (unit - at % unit) ≡ at / unit * unit + unit = omega (arith, mod-add-div' at unit) in
+    add-mod-mod at (unit - at % unit) unit
+    ∙ ap (λ n. n % unit) split
+    ∙ add-mod_right (at / unit * unit) unit
+    ∙ mul-mod_left (at / unit) unit
+
+-- and the nearest one
+pub aligned_near : (unit at : ℕ) → 0 < unit → aligned unit at < at + unit
+unfolding aligned
+aligned_near unit at some =
+    let near : gap unit at < unit = mod-lt (unit - at % unit) some in
+    omega arith
 
 pub length-padded : (unit : ℕ) (bytes : List ℕ) → length (padded unit bytes) ≡ aligned unit (length bytes)
 unfolding padded aligned
@@ -18,6 +37,14 @@ length-padded unit bytes =
 pub padded_begun : (unit : ℕ) (bytes old : List ℕ) → bytes ≡ padded unit old → Stands bytes 0 old
 unfolding padded
 padded_begun unit bytes old is = stands_begun bytes old (replicate (gap unit (length old)) 0) is
+
+pub padded_whole : (unit : ℕ) (bytes old : List ℕ) → 0 < unit → bytes ≡ padded unit old → length bytes % unit ≡ 0
+padded_whole unit bytes old some is =
+    ap (λ n. n % unit) (ap length is ∙ length-padded unit old) ∙ aligned_whole unit (length old) some
+
+pub padded_near : (unit : ℕ) (bytes old : List ℕ) → 0 < unit → bytes ≡ padded unit old → length bytes < length old + unit
+padded_near unit bytes old some is =
+    omega (arith, ap length is ∙ length-padded unit old, aligned_near unit (length old) some)
 
 -- the end of a front with one more part
 length_next : (unit start : ℕ) (front part : List ℕ) → length front ≡ start → length (padded unit front ++ part) ≡ aligned unit start + length part

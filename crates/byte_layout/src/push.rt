@@ -1,4 +1,4 @@
-ghost use Rattle.std.specs.Prelude.{◌≡◌, ◌+◌, ◌^◌, ◌<◌, ◌++◌, length, vec_len, OnOk, OnErr};
+ghost use Rattle.std.specs.Prelude.{◌≡◌, ◌+◌, ◌%◌, ◌^◌, ◌<◌, ◌++◌, length, vec_len, OnOk, OnErr};
 ghost use Rattle.std.specs.List.{flat_map};
 ghost use Rattle.byteorder.specs.Endian.{little_bytes};
 ghost use Rattle.byte_layout.specs.Stands.{Stands};
@@ -40,8 +40,20 @@ pub fn push_words(bytes: &mut Vec<u8>, words: &[u32]) -> Result<(), AllocError>
 }
 
 /// Appends zeros up to the next multiple of a unit. Without memory the bytes still begin with those that they were.
-#[tactic(auto, unfolding(crate::specs::Joined::padded), using(crate::proofs::StandsLemmas::stands_begun))]
+#[tactic(auto, using(crate::proofs::JoinedLemmas::padded_whole, crate::proofs::JoinedLemmas::padded_near))]
 pub fn pad(bytes: &mut Vec<u8>, unit: usize) -> Result<(), AllocError>
+    requires { 0 < unit }
+    ensures ok { OnOk result (bytes.new.items ≡ padded unit bytes.old.items) }
+    ensures whole { OnOk result (length bytes.new.items % unit ≡ 0) }
+    ensures near { OnOk result (length bytes.new.items < length bytes.old.items + unit) }
+    ensures err { OnErr result (Stands bytes.new.items 0 bytes.old.items) }
+{
+    push_zeros(bytes, unit)?;
+    Ok(())
+}
+
+#[tactic(auto, unfolding(crate::specs::Joined::padded), using(crate::proofs::StandsLemmas::stands_begun))]
+fn push_zeros(bytes: &mut Vec<u8>, unit: usize) -> Result<(), AllocError>
     requires { 0 < unit }
     ensures ok { OnOk result (bytes.new.items ≡ padded unit bytes.old.items) }
     ensures err { OnErr result (Stands bytes.new.items 0 bytes.old.items) }

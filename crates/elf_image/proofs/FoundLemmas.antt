@@ -1,0 +1,183 @@
+-- What the headers of a written image say.
+use Rattle.std.proofs.Common.{◌≡◌, ℕ, ◌+◌, ◌-◌, ◌*◌, ◌<◌, ◌≤◌, ◌^◌, Bool, true, false, ◌||◌, nat_eq, List, ◌++◌, length, inl, inr, IsTrue, refl, sym, ◌∙◌, ap, subst, arith}
+use Rattle.std.proofs.lemmas.Bool.{eq-eqb, eqb-true, or_cases}
+use Rattle.byte_layout.specs.Stands.{Stands}
+use Rattle.byte_layout.proofs.StandsLemmas.{stands_moved}
+use Rattle.elf_image.specs.declared.layout.Sizes.{Sizes}
+use Rattle.elf_image.specs.declared.rows.Width.TheVariants.{Half, Word, Xword}
+use Rattle.elf_image.specs.declared.rows.Wanted.{Wanted}
+use Rattle.elf_image.specs.declared.rows.Wanted.TheVariants.{Any, Is, Machine}
+use Rattle.elf_image.specs.declared.headers.Section.{Section}
+use Rattle.elf_image.specs.declared.parts.ImageParts.{ImageParts}
+use Rattle.elf_image.specs.Rows.{number_at, meets, HasRows, value_of, rows_bytes, labels_size}
+use Rattle.elf_image.specs.Layout.{text_offset, table_offset, values_offset, symbols_offset, strings_offset, labels_offset, labels_end, sections_offset, machine_in, entry_in, sections_in, program_size, section_at, section_size, sizes_in, info_in, info_place}
+use Rattle.elf_image.specs.Headers.{ident_rows, header_rows, program_rows, text_flags, table_flags, values_flags, section_rows, null_section, loaded_section, text_section, table_section, values_section, symbols_section, names_section, strings_section, labels_section}
+use Rattle.elf_image.specs.Written.{locals_of, sizes_of, front_rows, all_sections, AreParts}
+use Rattle.elf_image.proofs.LayoutLemmas.{AreBefore, ends_before}
+use Rattle.elf_image.proofs.LaidLemmas.{Laid}
+use Rattle.elf_image.proofs.PartLemmas.{entry_fits}
+use Rattle.elf_image.proofs.StageLemmas.{section_size_meets}
+use Rattle.elf_image.proofs.WrittenRowLemmas.{Allow, written_rows, first_rows, rest_rows}
+
+machine_fits : (machine : ℕ) → meets Machine machine ≡ true → machine < 65536
+machine_fits machine is =
+    elim (or_cases (nat_eq machine 62 || nat_eq machine 183) (nat_eq machine 243) is) [
+      | inl known ↦ elim (or_cases (nat_eq machine 62) (nat_eq machine 183) known) [
+        | inl same ↦ (let e : machine ≡ 62 = eqb-true machine 62 same in omega arith)
+        | inr same ↦ (let e : machine ≡ 183 = eqb-true machine 183 same in omega arith)
+      ]
+      | inr same ↦ (let e : machine ≡ 243 = eqb-true machine 243 same in omega arith)
+    ]
+
+pub ident_allowed : Allow ident_rows ident_rows
+ident_allowed = (refl, (omega arith, (refl, (refl, (omega arith, (refl, tt))))))
+
+pub header_allowed : (machine entry sections : ℕ) (known from headers : Wanted)
+    → machine < 65536 → entry < 2 ^ 64 → sections < 2 ^ 64
+    → meets known machine ≡ true → meets from entry ≡ true → meets headers sections ≡ true
+    → Allow (header_rows known from headers) (header_rows (Is machine) (Is entry) (Is sections))
+header_allowed machine entry sections known from headers a b c machine_met entry_met sections_met =
+    (refl, (omega arith, (refl,
+      (refl, (a, (machine_met,
+        (refl, (omega arith, (refl,
+          (refl, (b, (entry_met,
+            (refl, (omega arith, (refl,
+              (refl, (c, (sections_met,
+                (refl, (omega arith, (refl,
+                  (refl, (omega arith, (refl,
+                    (refl, (omega arith, (refl,
+                      (refl, (omega arith, (refl,
+                        (refl, (omega arith, (refl,
+                          (refl, (omega arith, (refl,
+                            (refl, (omega arith, (refl, tt)))))))))))))))))))))))))))))))))))))))
+
+pub program_allowed : (flags offset size : ℕ) (file memory : Wanted)
+    → flags < 2 ^ 32 → offset < 2 ^ 32 → size < 2 ^ 32 → meets file size ≡ true → meets memory size ≡ true
+    → Allow (program_rows flags offset file memory) (program_rows flags offset (Is size) (Is size))
+program_allowed flags offset size file memory a b c file_met memory_met =
+    (refl, (omega arith, (refl,
+      (refl, (a, (eq-eqb flags flags refl,
+        (refl, (omega arith, (eq-eqb offset offset refl,
+          (refl, (omega arith, (eq-eqb (offset + 0x3FF000) (offset + 0x3FF000) refl,
+            (refl, (omega arith, (eq-eqb (offset + 0x3FF000) (offset + 0x3FF000) refl,
+              (refl, (omega arith, (file_met,
+                (refl, (omega arith, (memory_met,
+                  (refl, (omega arith, (refl, tt))))))))))))))))))))))))
+
+-- the numbers of a section header are small
+pub record IsSmall (section : Section) : Type 0 where
+  pub name : section.name < 2 ^ 32
+  pub kind : section.kind < 2 ^ 32
+  pub flags : section.flags < 2 ^ 64
+  pub address : section.address < 2 ^ 64
+  pub offset : section.offset < 2 ^ 64
+  pub size : value_of section.size < 2 ^ 64
+  pub link : section.link < 2 ^ 32
+  pub info : value_of section.info < 2 ^ 32
+  pub align : section.align < 2 ^ 64
+  pub entry_size : section.entry_size < 2 ^ 64
+
+pub section_allowed : (section : Section) (size info : Wanted) → IsSmall section
+    → meets size (value_of section.size) ≡ true → meets info (value_of section.info) ≡ true
+    → Allow (section_rows (record section { size = size; info = info })) (section_rows section)
+section_allowed section size info small size_met info_met =
+    (refl, (small.name, (eq-eqb section.name section.name refl,
+      (refl, (small.kind, (eq-eqb section.kind section.kind refl,
+        (refl, (small.flags, (eq-eqb section.flags section.flags refl,
+          (refl, (small.address, (eq-eqb section.address section.address refl,
+            (refl, (small.offset, (eq-eqb section.offset section.offset refl,
+              (refl, (small.size, (size_met,
+                (refl, (small.link, (eq-eqb section.link section.link refl,
+                  (refl, (small.info, (info_met,
+                    (refl, (small.align, (eq-eqb section.align section.align refl,
+                      (refl, (small.entry_size, (eq-eqb section.entry_size section.entry_size refl, tt))))))))))))))))))))))))))))))
+
+pub null_small : IsSmall null_section
+null_small = record {
+  name = omega arith; kind = omega arith; flags = omega arith; address = omega arith; offset = omega arith;
+  size = omega arith; link = omega arith; info = omega arith; align = omega arith; entry_size = omega arith;
+}
+
+pub loaded_small : (name flags offset size align : ℕ) → name < 2 ^ 32 → flags < 2 ^ 32 → offset < 2 ^ 32 → size < 2 ^ 32 → align < 2 ^ 32
+    → IsSmall (loaded_section name flags offset size align)
+loaded_small name flags offset size align a b c d e = record {
+  name = a; kind = omega arith; flags = omega arith; address = omega arith; offset = omega arith;
+  size = omega arith; link = omega arith; info = omega arith; align = omega arith; entry_size = omega arith;
+}
+
+pub symbols_small : (offset size info : ℕ) → offset < 2 ^ 32 → size < 2 ^ 32 → info < 2 ^ 32
+    → IsSmall (symbols_section offset (Is size) (Is info))
+symbols_small offset size info a b c = record {
+  name = omega arith; kind = omega arith; flags = omega arith; address = omega arith; offset = omega arith;
+  size = omega arith; link = omega arith; info = omega arith; align = omega arith; entry_size = omega arith;
+}
+
+pub names_small : (name offset size : ℕ) → name < 2 ^ 32 → offset < 2 ^ 32 → size < 2 ^ 32
+    → IsSmall (names_section name offset (Is size))
+names_small name offset size a b c = record {
+  name = omega arith; kind = omega arith; flags = omega arith; address = omega arith; offset = omega arith;
+  size = omega arith; link = omega arith; info = omega arith; align = omega arith; entry_size = omega arith;
+}
+
+-- where the headers stand
+pub record Fronts (parts : ImageParts) (bytes : List ℕ) : Type 0 where
+  pub ident : Stands bytes 0 (rows_bytes ident_rows)
+  pub header : Stands bytes 16 (rows_bytes (header_rows (Is parts.machine) (Is parts.entry) (Is (sections_offset (sizes_of parts)))))
+  pub text : Stands bytes 64 (rows_bytes (program_rows text_flags text_offset (Is (sizes_of parts).text) (Is (sizes_of parts).text)))
+  pub table : Stands bytes 120 (rows_bytes (program_rows table_flags (table_offset (sizes_of parts)) (Is (sizes_of parts).table) (Is (sizes_of parts).table)))
+  pub values : Stands bytes 176 (rows_bytes (program_rows values_flags (values_offset (sizes_of parts)) (Is (sizes_of parts).values) (Is (sizes_of parts).values)))
+
+pub fronts : (parts : ImageParts) (bytes : List ℕ) → Laid parts bytes → Fronts parts bytes
+fronts parts bytes laid =
+    let sizes = sizes_of parts in
+    let header = header_rows (Is parts.machine) (Is parts.entry) (Is (sections_offset (sizes_of parts))) in
+    let text = program_rows text_flags text_offset (Is sizes.text) (Is sizes.text) in
+    let table = program_rows table_flags (table_offset sizes) (Is sizes.table) (Is sizes.table) in
+    let values = program_rows values_flags (values_offset sizes) (Is sizes.values) (Is sizes.values) in
+    let four = first_rows bytes 0 (ident_rows ++ header ++ text ++ table) values laid.front in
+    let three = first_rows bytes 0 (ident_rows ++ header ++ text) table four in
+    let two = first_rows bytes 0 (ident_rows ++ header) text three in
+    record {
+      ident = first_rows bytes 0 ident_rows header two;
+      header = rest_rows bytes 0 ident_rows header two;
+      text = rest_rows bytes 0 (ident_rows ++ header) text three;
+      table = rest_rows bytes 0 (ident_rows ++ header ++ text) table four;
+      values = rest_rows bytes 0 (ident_rows ++ header ++ text ++ table) values laid.front;
+    }
+
+-- where the section headers stand
+pub record Backs (parts : ImageParts) (bytes : List ℕ) : Type 0 where
+  pub null : Stands bytes (sections_offset (sizes_of parts)) (rows_bytes (section_rows null_section))
+  pub text : Stands bytes (sections_offset (sizes_of parts) + 64) (rows_bytes (section_rows (text_section text_offset (sizes_of parts).text)))
+  pub table : Stands bytes (sections_offset (sizes_of parts) + 128) (rows_bytes (section_rows (table_section (table_offset (sizes_of parts)) (sizes_of parts).table)))
+  pub values : Stands bytes (sections_offset (sizes_of parts) + 192) (rows_bytes (section_rows (values_section (values_offset (sizes_of parts)) (sizes_of parts).values)))
+  pub symbols : Stands bytes (sections_offset (sizes_of parts) + 256)
+    (rows_bytes (section_rows (symbols_section (symbols_offset (sizes_of parts)) (Is (sizes_of parts).symbols) (Is (locals_of parts.symbols)))))
+  pub strings : Stands bytes (sections_offset (sizes_of parts) + 320) (rows_bytes (section_rows (strings_section (strings_offset (sizes_of parts)) (Is (sizes_of parts).strings))))
+  pub labels : Stands bytes (sections_offset (sizes_of parts) + 384) (rows_bytes (section_rows (labels_section (labels_offset (sizes_of parts)) (Is labels_size))))
+
+pub backs : (parts : ImageParts) (bytes : List ℕ) → Laid parts bytes → Backs parts bytes
+backs parts bytes laid =
+    let sizes = sizes_of parts in
+    let at = sections_offset (sizes_of parts) in
+    let null = section_rows null_section in
+    let text = section_rows (text_section text_offset sizes.text) in
+    let table = section_rows (table_section (table_offset sizes) sizes.table) in
+    let values = section_rows (values_section (values_offset sizes) sizes.values) in
+    let symbols = section_rows (symbols_section (symbols_offset sizes) (Is sizes.symbols) (Is (locals_of parts.symbols))) in
+    let strings = section_rows (strings_section (strings_offset sizes) (Is sizes.strings)) in
+    let labels = section_rows (labels_section (labels_offset sizes) (Is labels_size)) in
+    let six = first_rows bytes at (null ++ text ++ table ++ values ++ symbols ++ strings) labels laid.sections in
+    let five = first_rows bytes at (null ++ text ++ table ++ values ++ symbols) strings six in
+    let four = first_rows bytes at (null ++ text ++ table ++ values) symbols five in
+    let three = first_rows bytes at (null ++ text ++ table) values four in
+    let two = first_rows bytes at (null ++ text) table three in
+    record {
+      null = first_rows bytes at null text two;
+      text = rest_rows bytes at null text two;
+      table = rest_rows bytes at (null ++ text) table three;
+      values = rest_rows bytes at (null ++ text ++ table) values four;
+      symbols = rest_rows bytes at (null ++ text ++ table ++ values) symbols five;
+      strings = rest_rows bytes at (null ++ text ++ table ++ values ++ symbols) strings six;
+      labels = rest_rows bytes at (null ++ text ++ table ++ values ++ symbols ++ strings) labels laid.sections;
+    }

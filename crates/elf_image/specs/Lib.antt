@@ -1,0 +1,10 @@
+pub mod Groups
+pub mod Rows
+pub mod Layout
+pub mod Headers
+pub mod Symbols
+pub mod Image
+pub mod Faults
+pub mod Parts
+pub mod Written
+pub mod Contents
