@@ -1,7 +1,7 @@
 -- Places under assignments.
-use Rattle.std.proofs.Common.{◌≡◌, ◌⊎◌, ℕ, zero, suc, ◌+◌, ◌-◌, ◌*◌, ◌%◌, ◌^◌, ◌<◌, ◌≤◌, refl, sym, ◌∙◌, ap, arith, add-one, inl, inr, subst}
+use Rattle.std.proofs.Common.{◌≡◌, ◌⊎◌, ℕ, zero, suc, ◌+◌, ◌%◌, ◌^◌, ◌<◌, ◌≤◌, refl, arith, add-one, inl, inr}
 use Rattle.std.proofs.lemmas.Bool.{cases_lt}
-use Rattle.least_forms.specs.Problem.{Problem, HasRoom, all_long, place, apart}
+use Rattle.least_forms.specs.Problem.{Problem, HasRoom, all_long, place}
 use Rattle.least_forms.specs.Laws.{IsLawful, IsPlaced, IsAsFar}
 
 -- the first place, and each next one
@@ -18,17 +18,17 @@ pub rises : (p : Problem) (form : ℕ → ℕ) (low high : ℕ) → low ≤ high
 unfolding place
 rises p form low zero order = let e : low ≡ 0 = omega arith in rw e (omega arith)
 rises p form low (suc high) order = elim (cases_lt high low) [
-    inl above ↦ let e : low ≡ suc high = omega arith in rw e (omega arith)
+  | inl above ↦ let e : low ≡ suc high = omega arith in rw e (omega arith)
   | inr below ↦ omega (arith, rises p form low high below)
-  ]
+]
 
 -- a greater form isn't the smaller one
 pub wider : (p : Problem) → IsLawful p → (line a b : ℕ) → a ≤ b → b ≤ 1 → p.width line a ≤ p.width line b
 wider p lawful line a b order most = elim (cases_lt a b) [
-    inl less ↦ let first : a ≡ 0 = omega arith in let second : b ≡ 1 = omega arith in
+  | inl less ↦ let first : a ≡ 0 = omega arith in let second : b ≡ 1 = omega arith in
       rw (first, second) (lawful.grows line)
   | inr other ↦ let same : a ≡ b = omega arith in rw same (omega arith)
-  ]
+]
 
 -- where each form is at most the other one, each stretch of lines is at most as long
 pub between : (p : Problem) → IsLawful p → (small big : ℕ → ℕ) → ((line : ℕ) → big line ≤ 1) → (high : ℕ)
@@ -37,12 +37,12 @@ pub between : (p : Problem) → IsLawful p → (small big : ℕ → ℕ) → ((l
 unfolding place
 between p lawful small big most zero less low order = let e : low ≡ 0 = omega arith in rw e (omega arith)
 between p lawful small big most (suc high) less low order = elim (cases_lt high low) [
-    inl above ↦ let e : low ≡ suc high = omega arith in rw e (omega arith)
+  | inl above ↦ let e : low ≡ suc high = omega arith in rw e (omega arith)
   | inr below ↦
       let here = wider p lawful high (small high) (big high) (less high (omega arith)) (most high) in
       let before = between p lawful small big most high (λ line h. less line (omega arith)) low below in
       omega arith
-  ]
+]
 
 -- with room for long forms, each place is below 2^32
 pub place_small : (p : Problem) → IsLawful p → HasRoom p → (form : ℕ → ℕ) → ((line : ℕ) → form line ≤ 1)
@@ -86,14 +86,20 @@ pub farther : (p : Problem) → IsLawful p → (small big : ℕ → ℕ) → ((l
     → ((line : ℕ) → line < p.count → small line ≤ big line) → (line goal : ℕ) → line ≤ p.count → goal ≤ p.count
     → IsAsFar (place p small line) (place p small goal) (place p big line) (place p big goal)
 farther p lawful small big most less line goal within among = elim (cases_lt line goal) [
-    inl ahead ↦
+  | inl ahead ↦
       let order : line ≤ goal = omega arith in
-      inl (rises p small line goal order, rises p big line goal order,
-        omega (arith, between p lawful small big most goal (λ k h. less k (omega arith)) line order))
+      inl (
+        rises p small line goal order,
+        rises p big line goal order,
+        omega (arith, between p lawful small big most goal (λ k h. less k (omega arith)) line order),
+      )
   | inr back ↦
-      inr (rises p small goal line back, rises p big goal line back,
-        omega (arith, between p lawful small big most line (λ k h. less k (omega arith)) goal back))
-  ]
+      inr (
+        rises p small goal line back,
+        rises p big goal line back,
+        omega (arith, between p lawful small big most line (λ k h. less k (omega arith)) goal back),
+      )
+]
 
 -- places under two assignments whose lines are equally long are the same
 pub same_place : (p : Problem) (one other : ℕ → ℕ) (high : ℕ)

@@ -1,5 +1,5 @@
 -- A branch reaches its goal from where it stands exactly where it reaches over its distance.
-use Rattle.std.proofs.Common.{◌≡◌, ◌⊎◌, ℕ, Bool, true, false, ◌+◌, ◌-◌, ◌%◌, ◌^◌, ◌<◌, ◌≤◌, nat_lt, refl, arith, inl, inr, Some}
+use Rattle.std.proofs.Common.{◌≡◌, ◌⊎◌, ℕ, ◌%◌, ◌<◌, ◌≤◌, arith, inl, inr}
 use Rattle.std.proofs.lemmas.Bool.{cases_lt}
 use Rattle.std.proofs.lemmas.Bool.Decides.{nat_tests}
 use Rattle.least_forms.specs.Problem.{Problem, apart}
@@ -32,12 +32,12 @@ over_placed p lawful line goal place to placed =
     let whole = whole_difference p.quantum place to lawful.quantum placed.place_whole placed.goal_whole in
     let zero = whole_zero p.quantum lawful.quantum in
     elim (cases_lt goal line) [
-      inl back ↦
-        let over = over_back line goal (apart place to) back in
-        rw (over.0, over.1) (record { place_small = omega arith; goal_small = omega arith; place_whole = whole; goal_whole = zero })
-    | inr ahead ↦
-        let over = over_ahead line goal (apart place to) ahead in
-        rw (over.0, over.1) (record { place_small = omega arith; goal_small = omega arith; place_whole = zero; goal_whole = whole })
+      | inl back ↦
+          let over = over_back line goal (apart place to) back in
+          rw (over.0, over.1) (record { place_small = omega arith; goal_small = omega arith; place_whole = whole; goal_whole = zero })
+      | inr ahead ↦
+          let over = over_ahead line goal (apart place to) ahead in
+          rw (over.0, over.1) (record { place_small = omega arith; goal_small = omega arith; place_whole = zero; goal_whole = whole })
     ]
 
 -- over a distance from 0 it is as far as from place to place, in the same direction
@@ -45,16 +45,17 @@ over_as_far : (line goal place to : ℕ) → IsInOrder line goal place to
     → IsAsFar place to (branch_over line goal (apart place to)) (goal_over line goal (apart place to))
     × IsAsFar (branch_over line goal (apart place to)) (goal_over line goal (apart place to)) place to
 over_as_far line goal place to order = elim (cases_lt goal line) [
-      inl back ↦
-        let over = over_back line goal (apart place to) back in
-        let below : to ≤ place = elim order [ inl h ↦ omega arith | inr h ↦ h.1 ] in
-        rw (over.0, over.1) (inr (omega arith, omega arith, omega arith), inr (omega arith, omega arith, omega arith))
-    | inr ahead ↦
-        let over = over_ahead line goal (apart place to) ahead in
-        rw (over.0, over.1) (elim order [
-          inl h ↦ (inl (h.1, omega arith, omega arith), inl (omega arith, h.1, omega arith))
-        | inr h ↦ absurd (omega arith) ])
-    ]
+  | inl back ↦
+      let over = over_back line goal (apart place to) back in
+      let below : to ≤ place = elim order [ inl h ↦ omega arith | inr h ↦ h.1 ] in
+      rw (over.0, over.1) (inr (omega arith, omega arith, omega arith), inr (omega arith, omega arith, omega arith))
+  | inr ahead ↦
+      let over = over_ahead line goal (apart place to) ahead in
+      rw (over.0, over.1) (elim order [
+        | inl h ↦ (inl (h.1, omega arith, omega arith), inl (omega arith, h.1, omega arith))
+        | inr h ↦ absurd (omega arith)
+      ])
+]
 
 -- a branch that reaches from its place reaches over its distance
 pub over_places : (p : Problem) → IsLawful p → (line goal place to : ℕ) → line < p.count → IsPlaced p.quantum place to

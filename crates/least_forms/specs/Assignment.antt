@@ -1,5 +1,5 @@
 -- The least assignment of forms in which every branch in its short form reaches its goal.
-use Rattle.std.specs.Prelude.{◌≡◌, ℕ, ◌<◌, ◌≤◌, Option, Some, None}
+use Rattle.std.specs.Prelude.{◌≡◌, ℕ, ◌<◌, ◌≤◌, Some, None}
 use Rattle.least_forms.specs.Problem.{Problem, place, apart}
 
 -- in this assignment the line, if it is a branch, reaches the line that it goes to

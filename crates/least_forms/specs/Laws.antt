@@ -1,5 +1,5 @@
 -- What the solver needs to know of the lines.
-use Rattle.std.specs.Prelude.{◌≡◌, ◌⊎◌, ℕ, ◌+◌, ◌%◌, ◌^◌, ◌<◌, ◌≤◌, Option, Some}
+use Rattle.std.specs.Prelude.{◌≡◌, ◌⊎◌, ℕ, ◌+◌, ◌%◌, ◌^◌, ◌<◌, ◌≤◌, Some}
 use Rattle.least_forms.specs.Problem.{Problem}
 
 -- from `from` to `to` it is at least as far as from `place` to `goal`, and in the same direction

@@ -1,6 +1,6 @@
 -- Lines of code that will stand one behind the other. Some are branches to a line, and a branch has two forms: 0, the short one,
 -- and 1, the long one.
-use Rattle.std.specs.Prelude.{◌≡◌, ◌⊎◌, ℕ, zero, suc, ◌+◌, ◌-◌, ◌^◌, ◌<◌, ◌≤◌, Option, Some, List, slice_index}
+use Rattle.std.specs.Prelude.{ℕ, zero, suc, ◌+◌, ◌-◌, ◌^◌, ◌<◌, Option, List, slice_index}
 
 pub record Problem : Type 1 where
   -- how many lines there are

@@ -1,5 +1,5 @@
 -- What is kept while short forms become long ones.
-use Rattle.std.specs.Prelude.{◌≡◌, ◌⊎◌, ℕ, ◌+◌, ◌-◌, ◌<◌, ◌≤◌, Bool, false, List, length, Option, Some, None, nat_lt, slice_index, slice_index_or, if◌then◌else◌}
+use Rattle.std.specs.Prelude.{◌≡◌, ◌⊎◌, ℕ, ◌+◌, ◌-◌, ◌<◌, ◌≤◌, Bool, false, List, length, Some, None, nat_lt, slice_index, slice_index_or, if◌then◌else◌}
 use Rattle.std.specs.List.{sum_by}
 use Rattle.least_forms.specs.Problem.{Problem, at, place, apart}
 use Rattle.least_forms.specs.Assignment.{IsBelow}
@@ -16,6 +16,12 @@ pub record IsStart (p : Problem) (forms : List ℕ) : Type 0 where
 pub record HasPlaces (p : Problem) (forms places : List ℕ) : Type 0 where
   pub len : length places ≡ p.count + 1
   pub each : (line : ℕ) → line ≤ p.count → slice_index places line ≡ place p (at forms) line
+
+-- the list holds the distance of each branch and its goal between these places
+pub record HasDistances (p : Problem) (places distances : List ℕ) : Type 0 where
+  pub len : length distances ≡ p.count
+  pub each : (line goal : ℕ) → line < p.count → p.goal line ≡ Some goal
+      → slice_index distances line ≡ apart (slice_index places line) (slice_index places goal)
 
 -- a branch in its short form to this goal, whose long form is longer: one that can still move others
 abbrev pub IsShort : Problem → List ℕ → ℕ → ℕ → Type 0
@@ -67,11 +73,11 @@ abbrev pub AllReach : Problem → List ℕ → Type 0
 AllReach p forms = (line goal : ℕ) → IsShort p forms line goal
     → p.reaches line 0 (place p (at forms) line) (place p (at forms) goal)
 
--- this form was lost where the lines stood by the earlier forms, or it is what it was; and what is short reaches there
+-- a form is what it was, or a short one was lost where the lines stood by the forms before; what is short reaches there
 pub record IsDropped (p : Problem) (before after : List ℕ) (line : ℕ) : Type 0 where
   pub kept : (at after line ≡ at before line)
-      ⊎ ((at after line ≡ 1) × (at before line ≡ 0) × ((goal : ℕ)
-      → p.goal line ≡ Some goal → ¬ p.reaches line 0 (place p (at before) line) (place p (at before) goal)))
+      ⊎ ((at after line ≡ 1) × (at before line ≡ 0) × ((goal : ℕ) × (p.goal line ≡ Some goal)
+      × ¬ p.reaches line 0 (place p (at before) line) (place p (at before) goal)))
   pub reaches : (goal : ℕ) → p.goal line ≡ Some goal → at after line ≡ 0
       → p.reaches line 0 (place p (at before) line) (place p (at before) goal)
 

@@ -1,6 +1,6 @@
 ghost use Rattle.std.specs.Prelude.{◌≡◌, ℕ, ◌+◌, ◌<◌, IfOk, IfSome, length, slice_index};
 ghost use Rattle.least_forms.specs.Problem.{HasRoom, apart};
-ghost use Rattle.least_forms.specs.Work.{HasPlaces, IsStart, IsShort, IsWindow};
+ghost use Rattle.least_forms.specs.Work.{HasDistances, HasPlaces, IsStart, IsShort, IsWindow};
 
 use crate::lines::Lines;
 use goasm_base::Memory;
@@ -27,10 +27,7 @@ pub fn places<L: Lines>(alloc: Global, lines: &L, forms: &[u8]) -> Result<Vec<u3
 pub fn distances<L: Lines>(alloc: Global, lines: &L, places: &[u32]) -> Result<Vec<u32>, Memory>
     requires fine { L.fine lines.now }
     requires places { length places.now ≡ (L.problem lines.now).count + 1 }
-    ensures len { IfOk result (λ far. length far.items ≡ (L.problem lines.now).count) }
-    ensures each { IfOk result (λ far. (line goal : ℕ) → line < (L.problem lines.now).count
-        → (L.problem lines.now).goal line ≡ Some goal
-        → slice_index far.items line ≡ apart (slice_index places.now line) (slice_index places.now goal)) }
+    ensures { IfOk result (λ distances. HasDistances (L.problem lines.now) places.now distances.items) }
 {
     let mut distances = Vec::new(alloc);
     for line in 0..lines.count() {

@@ -6,7 +6,7 @@ ghost use Rattle.least_forms.specs.Work.{HasPlaces, IsStart, AllReach};
 
 use crate::drops::{drop_lost, first_forms, first_lost};
 use crate::lines::Lines;
-use crate::placing::{distances, places, window};
+use crate::placing::{distances, places};
 use crate::sizes::{FormsNo, Sizes};
 use crate::work::settle;
 use goasm_base::{List, Memory};
@@ -60,8 +60,7 @@ fn least_forms<L: Lines>(alloc: Global, lines: &L) -> Result<Vec<u8>, Memory>
     let dropped = places(alloc, lines, &forms)?;
     let mut distances = distances(alloc, lines, &dropped)?;
     let mut marks = vec![in alloc; true; lines.count()]?;
-    let window = window(lines, &forms);
-    settle(lines, &mut forms, &mut distances, &mut marks, window);
+    settle(lines, &mut forms, &dropped, &mut distances, &mut marks);
     let settled = places(alloc, lines, &forms)?;
     finish(lines, &mut forms, &settled);
     Ok(forms)

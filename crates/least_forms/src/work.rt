@@ -1,10 +1,9 @@
-ghost use Rattle.std.specs.Prelude.{◌≡◌, ◌↔◌, ℕ, ◌+◌, ◌^◌, ◌<◌, ◌≤◌, Bool, false, IfSome, IsTrue, IsFalse, length, slice_index, nat_lt};
-ghost use Rattle.least_forms.specs.Problem.{HasRoom, at};
-ghost use Rattle.least_forms.specs.Assignment.{IsSound};
-ghost use Rattle.least_forms.specs.Work.{AllReach, IsShort, IsStart, IsWindow, IsWork, ReachesOver, Touches, branch_over, goal_over, mark, shorts};
+ghost use Rattle.std.specs.Prelude.{◌≡◌, ◌↔◌, ℕ, ◌+◌, ◌<◌, false, IfSome, IsTrue, IsFalse, length, replicate, slice_index, true};
+ghost use Rattle.least_forms.specs.Problem.{HasRoom};
+ghost use Rattle.least_forms.specs.Work.{AllReach, HasDistances, HasPlaces, IsShort, IsStart, IsWindow, IsWork, ReachesOver, Touches, mark, shorts};
 
 use crate::lines::Lines;
-use crate::placing::short_goal;
+use crate::placing::{short_goal, window};
 
 /// Gives each branch that loses its reach its long form, until none does.
 ///
@@ -14,17 +13,20 @@ use crate::placing::short_goal;
 pub fn settle<L: Lines>(
     lines: &L,
     forms: &mut [u8],
+    places: &[u32],
     distances: &mut [u32],
     marks: &mut [bool],
-    window: usize,
 )
     requires fine { L.fine lines.now }
     requires room { HasRoom (L.problem lines.now) }
-    requires work { IsWork (L.problem lines.now) forms.old distances.old marks.old }
-    requires window { IsWindow (L.problem lines.now) forms.old window }
+    requires start { IsStart (L.problem lines.now) forms.old }
+    requires places { HasPlaces (L.problem lines.now) forms.old places.now }
+    requires distances { HasDistances (L.problem lines.now) places.now distances.old }
+    requires marks { marks.old ≡ replicate (L.problem lines.now).count true }
     ensures start { IsStart (L.problem lines.now) forms.new }
     ensures reach { AllReach (L.problem lines.now) forms.new }
 {
+    let window = window(lines, forms);
     let mut from: usize = 0;
     while let Some(line) = next_lost(lines, forms, distances, marks, from) {
         grow(lines, forms, distances, marks, line, window);

@@ -1,4 +1,4 @@
-use Rattle.least_forms.proofs.LeastLemmas.{one_least, not_both, one_lost}
+use Rattle.least_forms.proofs.LeastLemmas.{not_both, one_lost}
 use Rattle.least_forms.proofs.laws.one_answer.Goals as goal
 
 pub returns-clause-not_both : goal.returns-clause-not_both
