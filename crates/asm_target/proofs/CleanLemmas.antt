@@ -33,11 +33,11 @@ and_false : (test one : Bool) → one ≡ false → (test && one) ≡ false
 and_false true one is = is
 and_false false one is = refl
 
-and_off : (one : Bool) → (one && false) ≡ false
+pub and_off : (one : Bool) → (one && false) ≡ false
 and_off true = refl
 and_off false = refl
 
-cases_or : (one other : Bool) → (one || other) ≡ true → (one ≡ true) ⊎ (other ≡ true)
+pub cases_or : (one other : Bool) → (one || other) ≡ true → (one ≡ true) ⊎ (other ≡ true)
 cases_or true other is = inl refl
 cases_or false other is = inr is
 

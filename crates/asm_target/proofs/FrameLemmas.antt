@@ -6,6 +6,7 @@ use Rattle.std.proofs.lemmas.List.{drop-drop}
 use Rattle.std.proofs.lemmas.Option.{slice_get_within}
 use Rattle.std.specs.List.{slice_get}
 use Rattle.std.specs.Prelude.{◌+ℤ◌}
+use Rattle.machine_effect.specs.declared.effect.Effect.{Effect}
 use Rattle.machine_effect.specs.declared.flow.Shape.{Shape}
 use Rattle.machine_effect.specs.declared.next.Next.TheVariants as next
 use Rattle.machine_effect.specs.Flow.{flow_of}
@@ -21,8 +22,12 @@ use Rattle.asm_target.proofs.CleanLemmas.{Falls, falling, none_below, unbroken}
 use Rattle.asm_target.proofs.PlaceLemmas.{apart_positions, instr_here, item_at}
 use Rattle.asm_target.proofs.RoleLemmas.{AreApart, added_before, added_last, counts, linked_out, stands_in}
 
-same_pos : (m n : ℕ) → pos m ≡ pos n → m ≡ n
+pub same_pos : (m n : ℕ) → pos m ≡ pos n → m ≡ n
 same_pos m n same = cc
+
+pub flow_next : (effect : Effect) (shape : Shape) → (flow_of effect shape).next ≡ effect.next
+unfolding flow_of
+flow_next effect shape = refl
 
 -- without a link register the depth changes as the stack pointer moves
 unlinked_out : (f : FlowFunction) (p : ℕ) → f.link ≡ None → next_at f p ≡ next.Fall
@@ -84,10 +89,6 @@ module _ {Instr : Type 0} (set : InstructionSet Instr) (fits : Instr → Type 0)
         ends = rest.ends;
       }
 
-  goes_on : (i : Instr) (pc : ℕ) → (flow_of (set.effect i pc) shape).next ≡ (set.effect i pc).next
-  unfolding flow_of
-  goes_on i pc = refl
-
   all_fall : (code : List Instr) (before after : ℕ) → Walks code before after → (k : ℕ) (i : Instr)
       → slice_get code k ≡ Some i → (pc : ℕ) → (set.effect i pc).next ≡ next.Fall
   all_fall [] before after walks k i is = absurd (cc)
@@ -104,7 +105,7 @@ module _ {Instr : Type 0} (set : InstructionSet Instr) (fits : Instr → Type 0)
       stands.whole.flow (at + k) i (instr_here set fits begins shape stands.all code stands.rest at k i stands.here is) in
       let falls = λ (k : ℕ) (i : Instr) (is : slice_get code k ≡ Some i).
       let place : ℕ = f.at (at + k) in
-      ap (λ flow. flow.next) (flow k i is) ∙ goes_on i place ∙ all_fall code before after walks k i is place in
+      ap (λ flow. flow.next) (flow k i is) ∙ flow_next (set.effect i place) shape ∙ all_fall code before after walks k i is place in
       let here : at + 0 ≡ at = omega arith in
       let by = walked code before after (λ k. f.depth (at + k)) (λ k. f.at (at + k)) walks (ap f.depth here ∙ start)
       (λ k i is.

@@ -6,3 +6,4 @@ pub mod CleanLemmas
 pub mod RoleLemmas
 pub mod PlaceLemmas
 pub mod FrameLemmas
+pub mod SequenceLemmas

@@ -24,7 +24,7 @@ frame_at_depth (Restoring count total) depth is = refl
 frame_at_depth Plain depth is = is
 frame_at_depth (Growth count) depth is = is
 
-frame_not_plain : (found : Sequence) → is_of_frame found ≡ true → is_plain found ≡ false
+pub frame_not_plain : (found : Sequence) → is_of_frame found ≡ true → is_plain found ≡ false
 frame_not_plain (Saving count total) is = refl
 frame_not_plain (Restoring count total) is = refl
 frame_not_plain Plain is = sym is
