@@ -111,13 +111,13 @@ pub lost_long : (p : Problem) → IsLawful p → HasRoom p → (forms : List ℕ
 lost_long p lawful room forms start line goal far short exact lost =
     forced p lawful room (at forms) start.small start.below line goal short.0 short.1
     (λ reaches. lost (subst (ReachesOver p line goal) (sym exact)
-    (over_places p lawful line goal (place p (at forms) line) (place p (at forms) goal) short.0
+    (over_places p lawful line goal (place p (at forms) line) (place p (at forms) goal) short.0 short.1
     (stand p lawful room forms start line goal short.0 short.1) (in_order p (at forms) line goal) reaches)))
 
 -- where no mark is left, every branch that can move others reaches
 pub all_reach : (p : Problem) → IsLawful p → HasRoom p → (forms distances : List ℕ) (marks : List Bool)
     → IsWork p forms distances marks → ((line : ℕ) → line < p.count → mark marks line ≡ false) → AllReach p forms
 all_reach p lawful room forms distances marks work clean line goal short =
-    places_over p lawful line goal (place p (at forms) line) (place p (at forms) goal) short.0
+    places_over p lawful line goal (place p (at forms) line) (place p (at forms) goal) short.0 short.1
     (stand p lawful room forms work.start line goal short.0 short.1) (in_order p (at forms) line goal)
     (subst (ReachesOver p line goal) (work.exact line goal short) (work.unmarked line goal short (clean line short.0)))

@@ -19,8 +19,8 @@ forced p lawful room form most below line goal within goes lost other sound =
     let among : goal < p.count = lawful.goals line goal within goes in
     let within' : line ≤ p.count = omega arith in
     let among' : goal ≤ p.count = omega arith in
-    one_of (other line) (sound.forms line) (λ short. lost (lawful.nearer line (place p form line) (place p form goal)
-    (place p other line) (place p other goal) within
+    one_of (other line) (sound.forms line) (λ short. lost (lawful.nearer line goal (place p form line) (place p form goal)
+    (place p other line) (place p other goal) within goes
     (placed p lawful room form most line goal within' among') (placed p lawful room other sound.forms line goal within' among')
     (farther p lawful form other sound.forms (below other sound) line goal within' among') (sound.short line goal within goes short)))
 

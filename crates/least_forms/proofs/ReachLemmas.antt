@@ -1,5 +1,5 @@
 -- A branch reaches its goal from where it stands exactly where it reaches over its distance.
-use Rattle.std.proofs.Common.{◌≡◌, ◌⊎◌, ℕ, ◌%◌, ◌<◌, ◌≤◌, arith, inl, inr}
+use Rattle.std.proofs.Common.{◌≡◌, ◌⊎◌, ℕ, ◌%◌, ◌<◌, ◌≤◌, arith, inl, inr, Some}
 use Rattle.std.proofs.lemmas.Bool.{cases_lt}
 use Rattle.std.proofs.lemmas.Bool.Decides.{nat_tests}
 use Rattle.least_forms.specs.Problem.{Problem, apart}
@@ -58,15 +58,15 @@ over_as_far line goal place to order = elim (cases_lt goal line) [
 ]
 
 -- a branch that reaches from its place reaches over its distance
-pub over_places : (p : Problem) → IsLawful p → (line goal place to : ℕ) → line < p.count → IsPlaced p.quantum place to
-    → IsInOrder line goal place to → p.reaches line 0 place to → ReachesOver p line goal (apart place to)
-over_places p lawful line goal place to within placed order reaches =
-    lawful.nearer line (branch_over line goal (apart place to)) (goal_over line goal (apart place to)) place to within
-    (over_placed p lawful line goal place to placed) placed (over_as_far line goal place to order).1 reaches
+pub over_places : (p : Problem) → IsLawful p → (line goal place to : ℕ) → line < p.count → p.goal line ≡ Some goal
+    → IsPlaced p.quantum place to → IsInOrder line goal place to → p.reaches line 0 place to → ReachesOver p line goal (apart place to)
+over_places p lawful line goal place to within goes placed order reaches =
+    lawful.nearer line goal (branch_over line goal (apart place to)) (goal_over line goal (apart place to)) place to
+    within goes (over_placed p lawful line goal place to placed) placed (over_as_far line goal place to order).1 reaches
 
 -- a branch that reaches over its distance reaches from its place
-pub places_over : (p : Problem) → IsLawful p → (line goal place to : ℕ) → line < p.count → IsPlaced p.quantum place to
-    → IsInOrder line goal place to → ReachesOver p line goal (apart place to) → p.reaches line 0 place to
-places_over p lawful line goal place to within placed order reaches =
-    lawful.nearer line place to (branch_over line goal (apart place to)) (goal_over line goal (apart place to)) within
+pub places_over : (p : Problem) → IsLawful p → (line goal place to : ℕ) → line < p.count → p.goal line ≡ Some goal
+    → IsPlaced p.quantum place to → IsInOrder line goal place to → ReachesOver p line goal (apart place to) → p.reaches line 0 place to
+places_over p lawful line goal place to within goes placed order reaches =
+    lawful.nearer line goal place to (branch_over line goal (apart place to)) (goal_over line goal (apart place to)) within goes
     placed (over_placed p lawful line goal place to placed) (over_as_far line goal place to order).0 reaches

@@ -21,6 +21,6 @@ pub record IsLawful (p : Problem) : Type 0 where
   pub whole : (line form : ℕ) → form ≤ 1 → p.width line form % p.quantum ≡ 0
   pub grows : (line : ℕ) → p.width line 0 ≤ p.width line 1
   pub goals : (line goal : ℕ) → line < p.count → p.goal line ≡ Some goal → goal < p.count
-  -- a short form that reaches a goal reaches each nearer one in the same direction
-  pub nearer : (line place goal from to : ℕ) → line < p.count → IsPlaced p.quantum place goal → IsPlaced p.quantum from to
-      → IsAsFar place goal from to → p.reaches line 0 from to → p.reaches line 0 place goal
+  -- a branch whose short form reaches a goal reaches each nearer one in the same direction
+  pub nearer : (line own place goal from to : ℕ) → line < p.count → p.goal line ≡ Some own → IsPlaced p.quantum place goal
+      → IsPlaced p.quantum from to → IsAsFar place goal from to → p.reaches line 0 from to → p.reaches line 0 place goal
