@@ -1,0 +1,4 @@
+pub mod Problem
+pub mod Assignment
+pub mod Laws
+pub mod Work
