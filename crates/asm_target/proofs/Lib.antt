@@ -7,3 +7,5 @@ pub mod RoleLemmas
 pub mod PlaceLemmas
 pub mod FrameLemmas
 pub mod SequenceLemmas
+pub mod GuardLemmas
+pub mod LevelLemmas
