@@ -1,13 +1,10 @@
 -- A check and its block, by the flow rules: what is picked makes code at depth 0 that stays there.
-use Rattle.std.proofs.Common.{◌≡◌, ℕ, zero, suc, List, [], ◌∷◌, ◌++◌, ◌+◌, ◌<◌, ◌≤◌, ◌==◌, ◌⊎◌, Bool, true, false, Option, Some, None, ℤ, pos, length, drop, refl, sym, ap, ◌∙◌, subst, arith, inl, inr, is_some, append_assoc}
-use Rattle.std.proofs.lemmas.Bool.{cases_order}
-use Rattle.std.proofs.lemmas.List.{drop-drop, length-append}
+use Rattle.std.proofs.Common.{◌≡◌, ℕ, List, [], ◌∷◌, ◌+◌, ◌<◌, ◌≤◌, Bool, false, Option, Some, None, length, refl, sym, ap, ◌∙◌, subst, arith}
 use Rattle.std.proofs.lemmas.List.Elements.{All-head, All-tail}
-use Rattle.std.specs.List.{slice_get, flat_map}
-use Rattle.std.specs.Prelude.{All, ◌+ℤ◌, ◌-◌, ◌^◌, ◌%◌}
+use Rattle.std.specs.List.{slice_get}
+use Rattle.std.specs.Prelude.{All, ◌^◌, ◌%◌}
 use Rattle.machine_effect.specs.declared.cond.Cond.{Cond}
 use Rattle.machine_effect.specs.declared.effect.Effect.{Effect}
-use Rattle.machine_effect.specs.declared.flow.Flow.{Flow}
 use Rattle.machine_effect.specs.declared.flow.Shape.{Shape}
 use Rattle.machine_effect.specs.declared.flow.SpMove.TheVariants.{Keep}
 use Rattle.machine_effect.specs.declared.next.Next.{Next}
@@ -20,15 +17,13 @@ use Rattle.asm_target.specs.declared.refer.Picked.{Picked}
 use Rattle.asm_target.specs.declared.refer.Refer.{Refer}
 use Rattle.asm_target.specs.declared.refer.To.{To}
 use Rattle.asm_target.specs.declared.sequence.Sequence.{Sequence}
-use Rattle.asm_target.specs.Aiming.{Aiming, Aims, HaveForms, HoldGoals, IsAimedForm, IsAimed, IsPlaced, JumpsAs, JumpsOver, KeepLengths, bytes_of, with_goal}
+use Rattle.asm_target.specs.Aiming.{Aiming, Aims, HaveForms, HoldGoals, IsAimedForm, JumpsAs, KeepLengths, with_goal}
 use Rattle.asm_target.specs.DepthChange.{is_call}
-use Rattle.asm_target.specs.FlowFunction.{FlowFunction, jump_goal, next_at}
+use Rattle.asm_target.specs.FlowFunction.{jump_goal}
 use Rattle.asm_target.specs.InstructionSet.{InstructionSet}
 use Rattle.asm_target.specs.Laws.{HasOnlyGoing, HasLinks}
-use Rattle.asm_target.specs.Standing.{HasCode}
+use Rattle.asm_target.specs.Sequences.{is_of_frame}
 use Rattle.asm_target.proofs.FlowLemmas.{stays}
-use Rattle.asm_target.proofs.FrameLemmas.{flow_next}
-use Rattle.asm_target.proofs.PlaceLemmas.{instr_here, fit_at}
 
 of_none : (link : Option ℕ) (test : ℕ → Bool) → ((register : ℕ) → test register ≡ false) → of_link link test ≡ false
 of_none None test none = refl
@@ -56,7 +51,8 @@ module _ {Instr : Type 0} (set : InstructionSet Instr) (fits : Instr → Type 0)
     pub holds_goals : HoldGoals set fits aiming
     pub same_lengths : KeepLengths set fits aiming
 
-  -- an instruction that goes on behind itself and touches neither the stack pointer nor the link register
+  -- an instruction that goes on behind itself, touches neither the stack pointer nor the link register, and begins no sequence of a
+  -- frame
   pub record IsQuietPick (pick : Picked Instr) : Type 0 where
     pub fit : fits pick.instr
     pub unreferred : pick.refer ≡ None
@@ -64,6 +60,7 @@ module _ {Instr : Type 0} (set : InstructionSet Instr) (fits : Instr → Type 0)
     pub keeps : (pc : ℕ) → (flow_of (set.effect pick.instr pc) shape).sp ≡ Keep
     pub unwritten : (pc : ℕ) → (flow_of (set.effect pick.instr pc) shape).writes_link ≡ false
     pub unstored : (pc : ℕ) → (flow_of (set.effect pick.instr pc) shape).stores_link ≡ false
+    pub frameless : (rest : List Instr) → is_of_frame (begins (pick.instr ∷ rest)) ≡ false
 
   -- one that goes to what it refers to: by a jump, under a condition, by a call
   pub record GoesTo (to : To) (pick : Picked Instr) : Type 0 where
@@ -84,10 +81,11 @@ module _ {Instr : Type 0} (set : InstructionSet Instr) (fits : Instr → Type 0)
 
   -- what an instruction of placed code does at its place
   pub record DoesHere (goes : Next) (i : Instr) (place : ℕ) : Type 0 where
-    pub next : (set.effect i place).next ≡ goes
+    pub told : (set.effect i place).next ≡ goes
     pub keeps : (flow_of (set.effect i place) shape).sp ≡ Keep
     pub unwritten : is_call goes ≡ false → (flow_of (set.effect i place) shape).writes_link ≡ false
     pub unstored : (flow_of (set.effect i place) shape).stores_link ≡ false
+    pub frameless : goes ≡ next.Fall → (rest : List Instr) → is_of_frame (begins (i ∷ rest)) ≡ false
 
   module _ (laws : GuardLaws) where
     unlinked : (goes : Next) → is_call goes ≡ false → link_of goes ≡ None
@@ -102,18 +100,20 @@ module _ {Instr : Type 0} (set : InstructionSet Instr) (fits : Instr → Type 0)
         let only = laws.only_goes i place fit low in
         let not_fall : ¬ ((set.effect i place).next ≡ next.Fall) = λ falls. away (sym is ∙ falls) in
         record {
-          next = is;
+          told = is;
           keeps = stays (set.effect i place) shape only (laws.links i place fit low) not_fall;
           unwritten = λ no_call. unwritten (set.effect i place) shape only not_fall (ap link_of is ∙ unlinked goes no_call);
           unstored = unstored (set.effect i place) shape only not_fall;
+          frameless = λ falls. absurd (away falls);
         }
 
     falls_here : (pick : Picked Instr) (place : ℕ) → IsQuietPick pick → DoesHere next.Fall pick.instr place
     falls_here pick place quiet = record {
-      next = quiet.falls place;
+      told = quiet.falls place;
       keeps = quiet.keeps place;
       unwritten = λ no_call. quiet.unwritten place;
       unstored = quiet.unstored place;
+      frameless = λ falls. quiet.frameless;
     }
 
     -- the code of such an instruction is itself
@@ -121,7 +121,7 @@ module _ {Instr : Type 0} (set : InstructionSet Instr) (fits : Instr → Type 0)
         → aiming.forms i form ≡ i ∷ []
     alone i form pc fit least low none = (laws.formed i fit).alone form pc least low none
 
-    quiet_code : (goal_of : To → Option ℕ) (pick : Picked Instr) (form place : ℕ) (code : List Instr) → IsQuietPick pick → form ≤ 1
+    pub quiet_code : (goal_of : To → Option ℕ) (pick : Picked Instr) (form place : ℕ) (code : List Instr) → IsQuietPick pick → form ≤ 1
         → IsAimedForm set fits aiming goal_of pick.refer place (aiming.forms pick.instr form) code → code ≡ pick.instr ∷ []
     quiet_code goal_of pick form place code quiet least aimed =
         let no_goal : jump_goal (set.effect pick.instr 0).next ≡ None = ap jump_goal (quiet.falls 0) in

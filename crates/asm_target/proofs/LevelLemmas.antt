@@ -1,7 +1,7 @@
 -- Code that is picked and placed, at its positions in a function.
 use Rattle.std.proofs.Common.{◌≡◌, ℕ, zero, suc, List, [], ◌∷◌, ◌++◌, ◌+◌, ◌<◌, ◌≤◌, Option, Some, length, drop, refl, sym, ap, ◌∙◌, subst, arith, inl, inr, append_assoc}
 use Rattle.std.proofs.lemmas.Bool.{cases_lt}
-use Rattle.std.proofs.lemmas.List.{drop-drop, length-append, drop-append-le, drop_at}
+use Rattle.std.proofs.lemmas.List.{drop-drop, length-append, drop_at}
 use Rattle.std.proofs.lemmas.List.Elements.{All-head, All-tail}
 use Rattle.std.specs.List.{slice_get, flat_map}
 use Rattle.std.specs.Prelude.{All, ◌-◌, ◌^◌, ◌%◌}
@@ -10,16 +10,16 @@ use Rattle.machine_effect.specs.declared.next.Next.{Next}
 use Rattle.asm_target.specs.declared.refer.Picked.{Picked}
 use Rattle.asm_target.specs.declared.refer.To.{To}
 use Rattle.asm_target.specs.declared.sequence.Sequence.{Sequence}
-use Rattle.asm_target.specs.Aiming.{Aiming, IsAimedForm, IsPlaced, bytes_of}
+use Rattle.asm_target.specs.Aiming.{Aiming, IsPlaced, bytes_of}
 use Rattle.asm_target.specs.FlowFunction.{FlowFunction}
 use Rattle.asm_target.specs.InstructionSet.{InstructionSet}
 use Rattle.asm_target.specs.Standing.{HasCode}
 use Rattle.asm_target.proofs.GuardLemmas.{GuardLaws, DoesHere, IsMildIn, IsMildFront, IsMildPick, Soft, mild_front, single, double}
-use Rattle.asm_target.proofs.PlaceLemmas.{instr_here, slice_get-drop}
+use Rattle.asm_target.proofs.PlaceLemmas.{instr_here}
 
 module _ {Instr : Type 0} (set : InstructionSet Instr) (fits : Instr → Type 0) (begins : List Instr → Sequence) (shape : Shape) (aiming : Aiming Instr) where
   -- code behind other code
-  behind : (all front back : List Instr) (at : ℕ) → drop at all ≡ front ++ back → drop (at + length front) all ≡ back
+  pub behind : (all front back : List Instr) (at : ℕ) → drop at all ≡ front ++ back → drop (at + length front) all ≡ back
   behind all front back at here =
       sym (drop-drop (length front) at all) ∙ ap (drop (length front)) here ∙ drop_at front back (length front) refl
 

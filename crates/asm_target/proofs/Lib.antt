@@ -9,3 +9,6 @@ pub mod FrameLemmas
 pub mod SequenceLemmas
 pub mod GuardLemmas
 pub mod LevelLemmas
+pub mod BlockLemmas
+pub mod CheckLemmas
+pub mod CheckLaws
