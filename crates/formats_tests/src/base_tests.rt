@@ -1,7 +1,7 @@
 use arrayvec::ArrayVec;
 use goasm_base::{
-    Bytes, List, MemShelf, MemSink, Name, NameSet, Pos, Shelf, ShelfNo, Sink, Text, behind,
-    behind_or_empty, digit_value, read_number, show_decimal, show_hex,
+    Bytes, List, MemShelf, MemSink, Name, NameSet, Pos, Recorder, Shelf, ShelfNo, Sink, Text,
+    behind, behind_or_empty, digit_value, read_number, show_decimal, show_hex,
 };
 use std::alloc::Global;
 use std::process::Abort;
@@ -164,6 +164,25 @@ fn memory_shelf_reads_by_name_and_number(rt: HostRuntime) -> Result<(), Fail> {
         read(alloc, &mut shelf, b"a", usize::MAX),
         Some(b"first"),
     );
+    Ok(())
+}
+
+#[test]
+fn a_recorder_keeps_the_names(rt: HostRuntime) -> Result<(), Fail> {
+    let alloc = rt.alloc();
+    let mut files = Vec::new(alloc);
+    files.push((
+        Name::from_slice(alloc, b"a")?,
+        Bytes::from_slice(alloc, b"first")?,
+    ))?;
+    let mut shelf = Recorder::new(alloc, MemShelf::new(files, Vec::new(alloc)));
+    expect_read(&rt, read(alloc, &mut shelf, b"a", 9), Some(b"first"));
+    expect_read(&rt, read(alloc, &mut shelf, b"b", 9), None);
+    expect_read(&rt, read(alloc, &mut shelf, b"a", 1), Some(b"fi"));
+    assert_eq!(rt; shelf.reads, 3, "reads");
+    for (name, want) in shelf.names.iter().zip([b"a", b"b", b"a"]) {
+        assert_eq!(rt; name.as_slice(), want.as_slice(), "names");
+    }
     Ok(())
 }
 

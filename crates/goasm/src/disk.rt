@@ -10,7 +10,8 @@ use std::{fs, str};
 /// How many bytes one read of a file asks for.
 const PIECE: usize = 65536;
 
-/// The file system. What it holds isn't told, and one count of faults serves for every name.
+/// The file system. What it holds isn't told, nor are the names that were asked for, and one count of faults serves for every
+/// name.
 #[derive(Drop)]
 pub struct Disk<'a, R: Files> {
     rt: &'a R,
@@ -38,8 +39,9 @@ impl<'a, R: Files> Shelf for Disk<'a, R> {
 
     ghost faults = { λ s _. s.faults };
 
-    ghost reads = { λ s. s.reads };
+    ghost reads = { λ s. record { count = s.reads; names = None } };
 
+    #[tactic(auto, unfolding(goasm_base::specs::Shelf::with_read))]
     fn read(&mut self, alloc: Global, name: &[u8], most: usize) -> Result<Bytes, ShelfNo> {
         self.reads = self.reads.saturating_add(1);
         let result = read_file(self.rt, alloc, name, most);

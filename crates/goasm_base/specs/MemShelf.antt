@@ -2,6 +2,7 @@
 use Rattle.std.specs.Prelude.{ℕ, Bool, List, [], ◌∷◌, ◌+◌, ◌-◌, ◌^◌, ◌==◌, ◌||◌, min, Option, Some, None, is_none, if◌then◌else◌}
 use Rattle.std.specs.List.{list_any}
 use Rattle.std.specs.Str.{bytes_eq}
+use Rattle.goasm_base.specs.Shelf.{ReadLog}
 
 pub record ShelfState : Type 0 where
   -- the files, by name and bytes; of several with one name the first counts
@@ -28,3 +29,7 @@ after_read shelf name = record shelf {
   reads = min (shelf.reads + 1) (2 ^ 64 - 1);
   faults = if read_fails shelf name then min (shelf.faults + 1) (2 ^ 64 - 1) else shelf.faults;
 }
+
+-- how many reads there were; it keeps no names
+abbrev pub log_of : ShelfState → ReadLog
+log_of shelf = record { count = shelf.reads; names = None }

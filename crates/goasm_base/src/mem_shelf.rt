@@ -1,7 +1,7 @@
 ghost use Rattle.std.specs.Prelude.{◌≡◌, ◌==◌, ℕ, List, ◌+◌, ◌≤◌, true, false, length, take, drop, IfOk, OnOk, IsErrOf, Option, Some, option_copied};
 ghost use Rattle.std.specs.List.{list_any};
-ghost use Rattle.goasm_base.specs.Shelf.{Reads, Rose, counted};
-ghost use Rattle.goasm_base.specs.MemShelf.{file_named, read_fails, after_read};
+ghost use Rattle.goasm_base.specs.Shelf.{Reads, Rose, Asks};
+ghost use Rattle.goasm_base.specs.MemShelf.{file_named, read_fails, after_read, log_of};
 
 use crate::bytes::{Bytes, Name};
 use crate::shelf::{Shelf, ShelfNo};
@@ -63,15 +63,16 @@ impl Shelf for MemShelf {
 
     ghost faults = { λ s _. s.faults };
 
-    ghost reads = { λ s. s.reads };
+    ghost reads = { log_of };
 
     /// Fails exactly where the name is absent or the read's number is listed; otherwise only memory
     /// may be wanting.
+    #[tactic(auto, unfolding(crate::specs::Shelf::with_read))]
     fn read(&mut self, alloc: Global, name: &[u8], most: usize) -> Result<Bytes, ShelfNo>
         ensures bytes { IfOk result (Reads (Some (file_named self.old.files)) name.now most) }
         ensures short { IfOk result (λ bytes. length bytes ≤ most + 1) }
         ensures same { Some (file_named self.new.files) ≡ Some (file_named self.old.files) }
-        ensures counted { self.new.reads ≡ counted 1 self.old.reads }
+        ensures asked { Asks name.now (log_of self.old) (log_of self.new) result }
         ensures faults { (n : List ℕ) → self.old.faults ≤ self.new.faults }
         ensures failed { IsErrOf result ShelfNo.Failed → Rose self.old.faults self.new.faults }
         ensures unfailed { OnOk result ((n : List ℕ) → self.new.faults ≡ self.old.faults) }

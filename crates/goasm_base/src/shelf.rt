@@ -1,5 +1,5 @@
 ghost use Rattle.std.specs.Prelude.{◌≡◌, ℕ, List, ◌+◌, ◌≤◌, Option, length, IfOk, OnOk, IsErrOf};
-ghost use Rattle.goasm_base.specs.Shelf.{Reads, Rose, counted};
+ghost use Rattle.goasm_base.specs.Shelf.{Reads, Rose, ReadLog, Asks};
 
 use crate::bytes::Bytes;
 use crate::memory::Memory;
@@ -36,8 +36,8 @@ pub trait Shelf {
     /// For each name, how many reads failed. A count that reaches the greatest `u64` stays there.
     ghost faults: { Self → List ℕ → ℕ };
 
-    /// How many reads there were, those that failed among them. A count that reaches the greatest `u64` stays there.
-    ghost reads: { Self → ℕ };
+    /// The reads that were made, those that failed among them: how many, and where it tells them their names.
+    ghost reads: { Self → ReadLog };
 
     /// The first `most + 1` bytes of the named file, or all of them where there are fewer, so that a
     /// caller sees whether a file is longer than `most`.
@@ -45,7 +45,7 @@ pub trait Shelf {
         ensures bytes { IfOk result (Reads (holds self.old) name.now most) }
         ensures short { IfOk result (λ bytes. length bytes ≤ most + 1) }
         ensures same { holds self.new ≡ holds self.old }
-        ensures counted { reads self.new ≡ counted 1 (reads self.old) }
+        ensures asked { Asks name.now (reads self.old) (reads self.new) result }
 
         // No count of faults falls. A read that failed is counted, and one that gave bytes leaves the counts.
         ensures faults { (n : List ℕ) → faults self.old n ≤ faults self.new n }

@@ -1,6 +1,6 @@
 -- A plan's answer, from the answer to what is left of the plan.
 use Rattle.std.proofs.Common.{◌≡◌, ℕ, List, Option, Result, Ok, Err, IfErr, IsErrAnd, inl, refl, sym, subst}
-use Rattle.goasm_base.specs.Shelf.{Files}
+use Rattle.goasm_base.specs.Shelf.{Files, ReadLog}
 use Rattle.goasm_run.specs.declared.stop.Stop.{Stop}
 use Rattle.goasm_run.specs.declared.stop.Stop.TheVariants as stops
 use Rattle.goasm_run.specs.Changes.{ShelfChange, ReadsAll}
@@ -31,7 +31,7 @@ led_stopped shelf plan rest stops.Memory leads unfailed stopped = leads.made
 led_stopped shelf plan rest (stops.Unread name) leads unfailed stopped = absurd stopped
 
 -- a plan leads to itself by no read
-pub leads_nowhere : (told : Option Files) (plan : Plan) (before : ℕ) → LeadsTo told plan before plan before
+pub leads_nowhere : (told : Option Files) (plan : Plan) (before : ReadLog) → LeadsTo told plan before plan before
 leads_nowhere told plan before = record {
   comes = λ now ending comes. comes;
   asks = λ now name asks. asks;

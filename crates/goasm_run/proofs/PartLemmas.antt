@@ -1,7 +1,7 @@
 -- Reading the files of a list, line by line.
 use Rattle.std.proofs.Common.{◌<◌, suc, length, drop, get_or, drop-cons, inl, inr, sym, ap, ◌∙◌}
 use Rattle.std.specs.Prelude.{◌≡◌, ℕ, List, [], ◌∷◌, ◌+◌, ◌≤◌, Option}
-use Rattle.goasm_base.specs.Shelf.{Files}
+use Rattle.goasm_base.specs.Shelf.{Files, ReadLog}
 use Rattle.goasm_list.specs.Rules.{file_count}
 use Rattle.goasm_list.specs.declared.line.ListLine.{ListLine}
 use Rattle.goasm_run.specs.declared.part.Part.{Part}
@@ -25,7 +25,7 @@ pub line_at : (lines : List ListLine) (index : ℕ) (line : ListLine)
 line_at lines index line below is = drop-cons lines index line below ∙ ap (λ l. l ∷ drop (suc index) lines) (sym is)
 
 -- where a line stops, so does the list
-pub parts_stopped : {S : Type 0} (holds : S → Option Files) (faults : S → List ℕ → ℕ) (reads : S → ℕ) (old mid new : S)
+pub parts_stopped : {S : Type 0} (holds : S → Option Files) (faults : S → List ℕ → ℕ) (reads : S → ReadLog) (old mid new : S)
     (all left rest : List ListLine) (line : ListLine) (number : ℕ) (parts : List Part) (stop : Stop)
     → ReadUpTo (shelf_change holds faults reads old mid) (holds mid) all left number parts → left ≡ line ∷ rest
     → LineStopped (shelf_change holds faults reads mid new) line number parts stop

@@ -1,13 +1,13 @@
 use Rattle.std.proofs.Common.{◌≡◌, ◌⊎◌, ℕ, List, Option, Some, inl, inr, refl, sym, ap, ◌∙◌}
-use Rattle.goasm_base.specs.Shelf.{Files, counted}
+use Rattle.goasm_base.specs.Shelf.{Files, ReadLog, with_read}
 use Rattle.goasm_run.specs.Changes.{ShelfChange}
 use Rattle.goasm_run.specs.Plan.{Plan, Ask, Tell, Refuse, Malformed, Ending, Text, Refusal, NoForm, ComesTo, AsksFor, MakesSome, MakesReads, EndsIn, StopsAt, ending_of}
 
 -- over a shelf that tells its files a plan comes to one ending alone
-comes_to_one : (files : Files) (plan : Plan) (before now : ℕ) (ending : Ending)
+comes_to_one : (files : Files) (plan : Plan) (before now : ReadLog) (ending : Ending)
     → ComesTo (Some files) plan before now ending → ending_of files plan ≡ Some ending
 comes_to_one files (Ask name limit next) before now ending comes =
-    rw (comes.1 files refl) (comes_to_one files (next comes.0) (counted 1 before) now ending comes.3)
+    rw (comes.1 files refl) (comes_to_one files (next comes.0) (with_read name before) now ending comes.3)
 comes_to_one files (Tell text) before now ending comes = ap Some comes.0
 comes_to_one files (Refuse line) before now ending comes = ap Some comes.0
 comes_to_one files Malformed before now ending comes = ap Some comes.0
@@ -60,10 +60,10 @@ malformed_unread shelf plan name is stops = rw is at stops.0
 
 -- all reads of a plan are some of them
 
-comes_makes : (told : Option Files) (plan : Plan) (before now : ℕ) (ending : Ending)
+comes_makes : (told : Option Files) (plan : Plan) (before now : ReadLog) (ending : Ending)
     → ComesTo told plan before now ending → (now ≡ before) ⊎ MakesSome told plan before now
 comes_makes told (Ask name limit next) before now ending comes =
-    elim (comes_makes told (next comes.0) (counted 1 before) now ending comes.3) [
+    elim (comes_makes told (next comes.0) (with_read name before) now ending comes.3) [
       | inl same ↦ inr (inl same)
       | inr more ↦ inr (inr (comes.0, comes.1, comes.2, more))
     ]
@@ -71,12 +71,12 @@ comes_makes told (Tell text) before now ending comes = inl comes.1
 comes_makes told (Refuse line) before now ending comes = inl comes.1
 comes_makes told Malformed before now ending comes = inl comes.1
 
-asks_makes : (told : Option Files) (plan : Plan) (before now : ℕ) (name : List ℕ)
+asks_makes : (told : Option Files) (plan : Plan) (before now : ReadLog) (name : List ℕ)
     → AsksFor told plan before now name → MakesSome told plan before now
 asks_makes told (Ask asked limit next) before now name asks =
     elim asks [
       | inl last ↦ inl last.1
-      | inr more ↦ inr (more.0, more.1, more.2, asks_makes told (next more.0) (counted 1 before) now name more.3)
+      | inr more ↦ inr (more.0, more.1, more.2, asks_makes told (next more.0) (with_read asked before) now name more.3)
     ]
 asks_makes told (Tell text) before now name asks = absurd asks
 asks_makes told (Refuse line) before now name asks = absurd asks

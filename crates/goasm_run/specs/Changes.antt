@@ -1,6 +1,6 @@
 -- What a shelf and a sink tell of a call: how they were before it, and how they are now.
 use Rattle.std.specs.Prelude.{◌≡◌, ℕ, List, Option}
-use Rattle.goasm_base.specs.Shelf.{Files, Rose}
+use Rattle.goasm_base.specs.Shelf.{Files, Rose, ReadLog}
 use Rattle.goasm_base.specs.Sink.{with_more, TookPrefix}
 
 pub record ShelfChange : Type 0 where
@@ -9,11 +9,11 @@ pub record ShelfChange : Type 0 where
   -- how many reads of a name failed
   pub faults_before : List ℕ → ℕ
   pub faults_now : List ℕ → ℕ
-  -- how many reads there were
-  pub reads_before : ℕ
-  pub reads_now : ℕ
+  -- the reads that were made
+  pub reads_before : ReadLog
+  pub reads_now : ReadLog
 
-abbrev pub shelf_change : {S : Type 0} (holds : S → Option Files) (faults : S → List ℕ → ℕ) (reads : S → ℕ) (before now : S) → ShelfChange
+abbrev pub shelf_change : {S : Type 0} (holds : S → Option Files) (faults : S → List ℕ → ℕ) (reads : S → ReadLog) (before now : S) → ShelfChange
 shelf_change holds faults reads before now = record {
   holds = holds before;
   faults_before = faults before;

@@ -1,6 +1,6 @@
 -- How reading the files of a list goes on, line by line.
 use Rattle.std.specs.Prelude.{◌≡◌, ◌⊎◌, ◌<◌, ℕ, suc, List, [], ◌∷◌, length, All, Option}
-use Rattle.goasm_base.specs.Shelf.{Files}
+use Rattle.goasm_base.specs.Shelf.{Files, ReadLog}
 use Rattle.goasm_list.specs.declared.line.ListLine.{ListLine}
 use Rattle.goasm_run.specs.declared.part.Part.{Part}
 use Rattle.goasm_run.specs.declared.stop.Stop.{Stop}
@@ -10,16 +10,16 @@ use Rattle.goasm_run.specs.Plan.{Plan, Ending, ComesTo, AsksFor, MakesSome, Make
 use Rattle.goasm_run.specs.Parts.{ask_parts}
 use Rattle.goasm_run.specs.Sources.{names_of}
 
--- A plan leads to what is left of it, by reads that the shelf answered, which lead from one count to another. So what comes
+-- A plan leads to what is left of it, by reads that the shelf answered, which lead from one log to another. So what comes
 -- of the rest comes of the plan.
-pub record LeadsTo (told : Option Files) (plan : Plan) (before : ℕ) (rest : Plan) (between : ℕ) : Type 0 where
-  pub comes : (now : ℕ) (ending : Ending) → ComesTo told rest between now ending → ComesTo told plan before now ending
-  pub asks : (now : ℕ) (name : List ℕ) → AsksFor told rest between now name → AsksFor told plan before now name
-  pub makes : (now : ℕ) → MakesSome told rest between now → MakesSome told plan before now
+pub record LeadsTo (told : Option Files) (plan : Plan) (before : ReadLog) (rest : Plan) (between : ReadLog) : Type 0 where
+  pub comes : (now : ReadLog) (ending : Ending) → ComesTo told rest between now ending → ComesTo told plan before now ending
+  pub asks : (now : ReadLog) (name : List ℕ) → AsksFor told rest between now name → AsksFor told plan before now name
+  pub makes : (now : ReadLog) → MakesSome told rest between now → MakesSome told plan before now
   pub made : (between ≡ before) ⊎ MakesSome told plan before between
 
 -- A line leads from parts that there are to others, with the number of the next file.
-abbrev pub LineLeads : Option Files → ListLine → ℕ → List Part → ℕ → ℕ → List Part → ℕ → Type 0
+abbrev pub LineLeads : Option Files → ListLine → ℕ → List Part → ReadLog → ℕ → List Part → ReadLog → Type 0
 LineLeads told line number parts before number_now parts_now between =
     (lines : List ListLine) (next : List Part → Plan)
     → LeadsTo told (ask_parts number (line ∷ lines) parts next) before (ask_parts number_now lines parts_now next) between

@@ -1,6 +1,6 @@
 -- What words ask for: which files are read, in which order and up to which length, and then a text or a refusal.
 use Rattle.std.specs.Prelude.{◌≡◌, ◌⊎◌, ℕ, List, ◌+◌, ◌≤◌, length, Option, Some, None}
-use Rattle.goasm_base.specs.Shelf.{Files, read_of, Reads, counted}
+use Rattle.goasm_base.specs.Shelf.{Files, read_of, Reads, ReadLog, with_read}
 use Rattle.goasm_run.specs.Changes.{ShelfChange, FailsToRead, ReadsAll}
 
 pub data Plan : Type 0 where
@@ -19,35 +19,35 @@ pub data Ending : Type 0 where
   Refusal : (line : List ℕ) → Ending
   NoForm : Ending
 
--- Below, each read of a plan counts one, and all of them lead from the count `before` to the count `now`. So a plan that
--- asks for two files makes two reads: none is tried again, none is left out, and no other file is read.
+-- Below, the reads of a plan lead from the log `before` to the log `now`: each is one read more, of the name that the plan
+-- asks for. So none is tried again, none is left out, they come in the plan's order, and no other file is read.
 
 -- a plan may come to an ending over some answers of the shelf; where the shelf tells its files, the answers are
 -- what these hold, and the ending is the one that `ending_of` gives
-abbrev pub ComesTo : Option Files → Plan → ℕ → ℕ → Ending → Type 0
+abbrev pub ComesTo : Option Files → Plan → ReadLog → ReadLog → Ending → Type 0
 ComesTo told (Ask name limit next) before now ending =
     (bytes : List ℕ) × Reads told name limit bytes × (length bytes ≤ limit + 1)
-    × ComesTo told (next bytes) (counted 1 before) now ending
+    × ComesTo told (next bytes) (with_read name before) now ending
 ComesTo told (Tell text) before now ending = (Text text ≡ ending) × (now ≡ before)
 ComesTo told (Refuse line) before now ending = (Refusal line ≡ ending) × (now ≡ before)
 ComesTo told Malformed before now ending = (NoForm ≡ ending) × (now ≡ before)
 
--- a plan comes to ask for a file of this name, after reads that the shelf answered; that read is the last that is counted
-abbrev pub AsksFor : Option Files → Plan → ℕ → ℕ → List ℕ → Type 0
+-- a plan comes to ask for a file of this name, after reads that the shelf answered; that read is the last one
+abbrev pub AsksFor : Option Files → Plan → ReadLog → ReadLog → List ℕ → Type 0
 AsksFor told (Ask asked limit next) before now name =
-    ((asked ≡ name) × (now ≡ counted 1 before))
+    ((asked ≡ name) × (now ≡ with_read asked before))
     ⊎ ((bytes : List ℕ) × Reads told asked limit bytes × (length bytes ≤ limit + 1)
-    × AsksFor told (next bytes) (counted 1 before) now name)
+    × AsksFor told (next bytes) (with_read asked before) now name)
 AsksFor told (Tell text) before now name = ⊥
 AsksFor told (Refuse line) before now name = ⊥
 AsksFor told Malformed before now name = ⊥
 
 -- a plan makes its first reads, one at least; the shelf answered all of them but the last, of which nothing is said
-abbrev pub MakesSome : Option Files → Plan → ℕ → ℕ → Type 0
+abbrev pub MakesSome : Option Files → Plan → ReadLog → ReadLog → Type 0
 MakesSome told (Ask name limit next) before now =
-    (now ≡ counted 1 before)
+    (now ≡ with_read name before)
     ⊎ ((bytes : List ℕ) × Reads told name limit bytes × (length bytes ≤ limit + 1)
-    × MakesSome told (next bytes) (counted 1 before) now)
+    × MakesSome told (next bytes) (with_read name before) now)
 MakesSome told (Tell text) before now = ⊥
 MakesSome told (Refuse line) before now = ⊥
 MakesSome told Malformed before now = ⊥

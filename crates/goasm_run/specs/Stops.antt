@@ -1,6 +1,6 @@
 -- What it means that a command ended with a text, or without one.
-use Rattle.std.specs.Prelude.{◌≡◌, ◌≢◌, ℕ, List, ◌+◌, ◌≤◌, length, Result, Err, IfOk, IfErr}
-use Rattle.goasm_base.specs.Shelf.{Reads}
+use Rattle.std.specs.Prelude.{◌≡◌, ◌≢◌, ◌⊎◌, ℕ, List, ◌+◌, ◌≤◌, length, Result, Err, IfOk, IfErr}
+use Rattle.goasm_base.specs.Shelf.{Reads, with_read}
 use Rattle.goasm_run.specs.declared.stop.Stop.{Stop}
 use Rattle.goasm_run.specs.declared.stop.Stop.TheVariants as stops
 use Rattle.goasm_run.specs.Changes.{ShelfChange, FailsToRead, ReadsAll}
@@ -11,13 +11,16 @@ pub record IsRead (shelf : ShelfChange) (name : List ℕ) (limit : ℕ) (bytes :
   pub given : Reads shelf.holds name limit bytes
   pub short : length bytes ≤ limit + 1
   pub unfailed : ReadsAll shelf
+  pub asked : shelf.reads_now ≡ with_read name shelf.reads_before
 
 -- a read of this name ended so
 abbrev pub ReadStopped : ShelfChange → List ℕ → Stop → Type 0
 ReadStopped shelf name (stops.Refused line) = ⊥
 ReadStopped shelf name stops.Words = ⊥
-ReadStopped shelf name stops.Memory = Unit {0}
-ReadStopped shelf name (stops.Unread file) = (file ≡ name) × FailsToRead shelf name
+ReadStopped shelf name stops.Memory =
+    (shelf.reads_now ≡ shelf.reads_before) ⊎ (shelf.reads_now ≡ with_read name shelf.reads_before)
+ReadStopped shelf name (stops.Unread file) =
+    (file ≡ name) × FailsToRead shelf name × (shelf.reads_now ≡ with_read name shelf.reads_before)
 
 -- an answer that reads nothing ended so
 abbrev pub AnswerStopped : Plan → Stop → Type 0

@@ -1,5 +1,4 @@
 ghost use Rattle.std.specs.Prelude.{◌≡◌, ◌⊎◌, List, [], ◌∷◌, ◌+◌, ◌≤◌, IfOk, IfErr};
-ghost use Rattle.goasm_base.specs.Shelf.{counted};
 ghost use Rattle.goasm_list.specs.Rules.{file_count};
 ghost use Rattle.goasm_run.specs.declared.part.Part.{Part};
 ghost use Rattle.goasm_run.specs.Limits.{source_limit};
@@ -87,7 +86,6 @@ fn read_file<F: Shelf>(
     ensures read { IfOk result (λ part. IsRead (shelf_change F.holds F.faults F.reads shelf.old shelf.new) line.now.name source_limit part.bytes) }
     ensures stopped { IfErr result (ReadStopped (shelf_change F.holds F.faults F.reads shelf.old shelf.new) line.now.name) }
     ensures same { F.holds shelf.new ≡ F.holds shelf.old }
-    ensures counted { F.reads shelf.new ≡ counted 1 (F.reads shelf.old) }
 {
     let bytes = read_named(alloc, shelf, line.name.as_slice(), limits::SOURCE)?;
     Ok(Part {

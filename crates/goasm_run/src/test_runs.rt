@@ -1,6 +1,6 @@
 //! Commands that are run over files and sinks in memory.
 use crate::{Words, goasm_main};
-use goasm_base::{Bytes, MemShelf, MemSink, Name};
+use goasm_base::{Bytes, MemShelf, MemSink, Name, Recorder};
 use std::alloc::{AllocError, Global};
 use std::process::Abort;
 
@@ -68,5 +68,28 @@ pub fn expect<R: Abort>(
     assert_eq!(rt; out.taken(), want.1, "{what}");
     assert_eq!(rt; err.taken(), want.2, "{what}");
     assert_eq!(rt; status, want.0, "{what}");
+    Ok(())
+}
+
+/// Runs the words over the files, and tests its status and the names that are asked for.
+pub fn expect_reads<R: Abort>(
+    rt: &R,
+    alloc: Global,
+    list: &[&[u8]],
+    files: Vec<(Name, Bytes)>,
+    failing: &[u32],
+    want: (u8, &[&[u8]]),
+) -> Result<(), AllocError> {
+    let words = words(alloc, list)?;
+    let files = MemShelf::new(files, Vec::from_slice(alloc, failing)?);
+    let mut shelf = Recorder::new(alloc, files);
+    let mut out = sink(alloc, 1000, NONE.out)?;
+    let mut err = sink(alloc, 1000, NONE.err)?;
+    let status = goasm_main(alloc, &words, &mut shelf, &mut out, &mut err);
+    assert_eq!(rt; status, want.0, "the status");
+    assert_eq!(rt; shelf.names.len(), want.1.len(), "how many reads");
+    for (name, wanted) in shelf.names.iter().zip(want.1) {
+        assert_eq!(rt; name.as_slice(), *wanted, "what is read");
+    }
     Ok(())
 }

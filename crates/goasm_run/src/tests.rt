@@ -132,6 +132,31 @@ fn failing_devices_have_their_status(rt: HostRuntime) -> Result<(), Fail> {
     Ok(())
 }
 
+#[test]
+fn only_the_files_that_are_named_are_read(rt: HostRuntime) -> Result<(), Fail> {
+    let alloc = rt.alloc();
+    let list = b"asm b.s\ninclude t.h\ndefine D 1\nasm a.s\nasm b.s\n";
+    let all = [b"list".as_slice(), b"b.s", b"t.h", b"a.s", b"b.s"];
+    for (failing, want) in [
+        ([].as_slice(), (0, all.as_slice())),
+        (&[0], (4, &all[..1])),
+        (&[2], (4, &all[..3])),
+    ] {
+        let mut files = Vec::new(alloc);
+        files.push(file(alloc, b"list", list)?)?;
+        for name in [b"a.s", b"b.s", b"t.h", b"u.h"] {
+            files.push(file(alloc, name, b"RET\n")?)?;
+        }
+        test_runs::expect_reads(&rt, alloc, &[b"expand", b"list"], files, failing, want)?;
+    }
+    let mut files = Vec::new(alloc);
+    files.push(file(alloc, b"cas.tab", &CAS)?)?;
+    let look_up = [b"lookup".as_slice(), b"cas.tab", b"0x400011"];
+    test_runs::expect_reads(&rt, alloc, &look_up, files, &[], (0, &[b"cas.tab"]))?;
+    test_runs::expect_reads(&rt, alloc, &[b"lookup"], Vec::new(alloc), &[], (2, &[]))?;
+    Ok(())
+}
+
 /// A byte of the table, the value that it gets, and the line that a look-up then prints.
 type Damage = (usize, u8, &'static str);
 
