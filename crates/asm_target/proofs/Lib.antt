@@ -1,4 +1,5 @@
 pub mod BreachLemmas
+pub mod DepthLemmas
 pub mod FlowLemmas
 pub mod ListingLemmas
 pub mod RunLemmas

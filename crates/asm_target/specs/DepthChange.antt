@@ -57,6 +57,11 @@ is_at_depth _ depth = false
 abbrev pub longest : ℕ
 longest = 5
 
+-- by how much an instruction changes the depth where there is no link register: as the stack pointer moves, but for the return
+-- address that a call pushes and a return pops
+abbrev pub moved_by : Flow → ℤ
+moved_by flow = if is_call flow.next || is_return flow.next then pos 0 else depth_added flow.sp
+
 module _ (view : DepthView) where
   -- the instruction at k is the last of a sequence that makes or leaves a frame and begins n instructions before it. A sequence
   -- counts only where no jump goes to its instructions but the first
@@ -71,12 +76,11 @@ module _ (view : DepthView) where
   added_within k zero = pos 0
   added_within k (suc n) = if ends_sequence k n then depth_added_by (view.found (k - n)) else added_within k n
 
-  -- With a link register, a frame is made or left by a sequence, and the depth changes at its last instruction. Without one it
-  -- changes as the stack pointer moves, but for the return address that CALL pushes and RET pops
+  -- with a link register, a frame is made or left by a sequence, and the depth changes at its last instruction
   unfoldable pub depth_change : ℕ → ℤ
   depth_change k =
       if is_some view.link then added_within k longest
-      else (if is_call (view.flow k).next || is_return (view.flow k).next then pos 0 else depth_added (view.flow k).sp)
+      else moved_by (view.flow k)
 
 -- the flow of an instruction that a list has at a place; past the list's end nothing is done
 abbrev pub flow_in : {Instr : Type 0} → InstructionSet Instr → Shape → Option Instr → Flow

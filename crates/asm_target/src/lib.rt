@@ -6,6 +6,7 @@
 
 mod body;
 mod compare;
+mod depth;
 mod few;
 mod frame;
 mod instr;
@@ -19,6 +20,7 @@ mod width;
 
 pub use body::{Body, Line, Placed};
 pub use compare::begins_with;
+pub use depth::change;
 pub use few::Few;
 pub use frame::{FrameShape, Guard, Site};
 pub use instr::{first_instr, flow_at, same};
