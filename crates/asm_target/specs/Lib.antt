@@ -8,3 +8,8 @@ pub mod FlowRules
 pub mod Runs
 pub mod DepthCases
 pub mod FlowCases
+pub mod Frames
+pub mod Selection
+pub mod Aiming
+pub mod Standing
+pub mod SequenceLaws

@@ -21,6 +21,10 @@ depth_added_by (Saving count total) = pos total
 depth_added_by (Restoring count total) = pos 0 -ℤ pos total
 depth_added_by _ = pos 0
 
+abbrev pub is_plain : Sequence → Bool
+is_plain Plain = true
+is_plain _ = false
+
 abbrev pub is_saving : Sequence → Bool
 is_saving (Saving count total) = true
 is_saving _ = false

@@ -12,8 +12,10 @@ mod instr;
 mod laws;
 mod processor;
 mod refer;
+mod select_no;
 mod sequence;
 mod target;
+mod width;
 
 pub use body::{Body, Line, Placed};
 pub use compare::begins_with;
@@ -23,5 +25,7 @@ pub use instr::{first_instr, flow_at, same};
 pub use laws::{one_breach, one_listing, runs_append, runs_cut};
 pub use processor::{Processor, Spelled};
 pub use refer::{Part, Picked, Refer, To};
+pub use select_no::SelectNo;
 pub use sequence::Sequence;
 pub use target::Target;
+pub use width::Width;
