@@ -1,1 +1,4 @@
 pub mod Zero
+pub mod Apart
+pub mod NamesApart
+pub mod AimingLemmas

@@ -3,10 +3,10 @@ use Rattle.amd64_table.specs.declared.mnemonic.Mnemonic.{Mnemonic}
 use Rattle.amd64_table.specs.declared.mnemonic.Mnemonic.TheVariants as name
 
 pub data Group : Type 0 where
-  pub Whole : Group
-  pub Computing : Group
-  pub Moving : Group
-  pub Conditional : Group
+  Whole : Group
+  Computing : Group
+  Moving : Group
+  Conditional : Group
 
 unfoldable pub group_of : Mnemonic → Group
 group_of (name.Arithmetic op width) = Computing

@@ -2,5 +2,5 @@ pub mod Names
 pub mod Groups
 pub mod Listed
 pub mod Rows
+pub mod Words
 pub mod Aiming
-pub mod Distances

@@ -1,7 +1,6 @@
-ghost use Rattle.std.specs.Prelude.{◌≡◌, ℕ, ◌<◌, ◌&&◌, Some, None, is_some, IsTrue, if◌then◌else◌};
-ghost use Rattle.machine_effect.specs.Numbers.{fits as fits_bits};
+ghost use Rattle.std.specs.Prelude.{◌≡◌, ℕ, ℤ, ◌<◌, ◌&&◌, Some, None, is_some, IsTrue, if◌then◌else◌};
+ghost use Rattle.machine_effect.specs.Numbers.{fits as fits_bits, moved_by};
 ghost use Rattle.amd64_forms.specs.Aiming as spec;
-ghost use Rattle.amd64_forms.specs.Distances as distances;
 
 use crate::operands::{byte_of, long_of};
 use amd64_table::{Instr, Mem, Near, Rm};
@@ -28,9 +27,10 @@ pub fn long_form(instr: Instr) -> Instr
     }
 }
 
-/// How far an address lies above another, modulo 2^64.
+/// How far an address lies above another, in bytes, modulo 2^64.
 pub fn distance(from: u64, to: u64) -> i64
-    ensures { result ≡ distances.distance from to }
+    ensures reaches { moved_by from result ≡ to }
+    ensures sole { (d : ℤ) → IsTrue (fits_bits 64 d) → moved_by from d ≡ to → result ≡ d }
 {
     to.wrapping_sub(from).cast_signed()
 }

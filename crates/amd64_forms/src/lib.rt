@@ -15,10 +15,13 @@ mod names;
 mod operands;
 mod registers;
 mod rows;
+mod words;
 
 pub use aiming::{aimed, distance, long_form, short_form};
 pub use alias::{Alias, alias_named};
 pub use listing::listed;
+pub use operands::{byte_of, long_of};
 pub use names::mnemonic_named;
 pub use registers::{cc_named, reg_named, xmm_named};
 pub use rows::{Resolved, Spoken, Written, chosen, meaning_of, stands};
+pub use words::{is_condition, is_register, is_tls, is_word, spoken};

@@ -1,5 +1,6 @@
-ghost use Rattle.std.specs.Prelude.{◌≡◌, ℕ, ℤ, pos, Some, None, IfSome};
+ghost use Rattle.std.specs.Prelude.{◌≡◌, ℕ, ℤ, pos, Some, None, IfSome, IsTrue};
 ghost use Rattle.amd64_table.specs.declared.instr.Instr.{Instr};
+ghost use Rattle.amd64_table.specs.Fits.{fits};
 ghost use Rattle.amd64_forms.specs.Rows as spec;
 
 use crate::alias::Alias;
@@ -178,7 +179,9 @@ fn itself(mnemonic: Mnemonic, first: Option<Resolved>, second: Option<Resolved>)
 }
 
 /// The instruction that a statement becomes; `None` exactly where it becomes none.
+#[tactic(auto, unfolding(crate::specs::Rows::Becomes))]
 pub fn chosen(spoken: Spoken, lock: bool, first: Option<Resolved>, second: Option<Resolved>) -> Option<Instr>
+    ensures fits { IfSome result (λ i. IsTrue (fits i)) }
     ensures found { IfSome result (λ i. spec.Becomes spoken lock first second i) }
     ensures only { (i : Instr) → spec.Becomes spoken lock first second i → result ≡ Some i }
 {

@@ -1,1 +1,6 @@
+pub mod Clean
 pub mod Laws
+pub mod Frames
+pub mod Operands
+pub mod Selecting
+pub mod Aims

@@ -1,0 +1,39 @@
+-- What becomes of an instruction whose distance changes.
+use Rattle.std.specs.Prelude.{is_some}
+use Rattle.std.proofs.Common.{◌≡◌, ℕ, ℤ, pos, Bool, true, false, IsTrue, Option, Some, None, refl, sym, ◌∙◌, ap, rules, arith}
+use Rattle.std.specs.Option.{option_map}
+use Rattle.machine_effect.specs.Numbers.{fits as fits_bits}
+use Rattle.amd64_table.specs.declared.memory.Mem.{Mem}
+use Rattle.amd64_table.specs.declared.memory.Mem.TheVariants as memory
+use Rattle.amd64_table.specs.declared.memory.Rm.{Rm}
+use Rattle.amd64_table.specs.declared.memory.Rm.TheVariants as rms
+use Rattle.amd64_table.specs.declared.instr.Instr.{Instr}
+use Rattle.amd64_table.specs.declared.instr.Instr.TheVariants as instr
+use Rattle.amd64_table.specs.Fits.{fits, fits_rm, fits_mem, fits_lock, is_quad_constant}
+use Rattle.amd64_forms.specs.Aiming.{place_in, distance_of, distance_bits, aimed_by}
+
+-- only the last distance counts
+pub aimed_twice : (d e : ℤ) (i : Instr) → aimed_by d (aimed_by e i) ≡ aimed_by d i
+unfolding aimed_by
+aimed_twice = search rules
+
+pub distance_aimed : (d : ℤ) (i : Instr) → distance_of (aimed_by d i) ≡ option_map (λ _. d) (distance_of i)
+unfolding aimed_by distance_of place_in
+distance_aimed = search rules
+
+-- an instruction has the distance that it has
+pub aimed_same : (d : ℤ) (i : Instr) → distance_of i ≡ Some d → aimed_by d i ≡ i
+unfolding aimed_by distance_of place_in
+aimed_same = search rules
+
+pub bits_aimed : (d : ℤ) (i : Instr) → distance_bits (aimed_by d i) ≡ distance_bits i
+unfolding aimed_by distance_bits
+bits_aimed = search rules
+
+pub distance_fits : (d : ℤ) (i : Instr) → IsTrue (fits i) → distance_of i ≡ Some d → IsTrue (fits_bits (distance_bits i) d)
+unfolding distance_of place_in distance_bits fits fits_rm fits_mem fits_lock
+distance_fits = search rules
+
+pub fits_aimed : (d : ℤ) (i : Instr) → IsTrue (fits i) → IsTrue (fits_bits (distance_bits i) d) → IsTrue (fits (aimed_by d i))
+unfolding distance_of place_in distance_bits aimed_by fits fits_rm fits_mem fits_lock
+fits_aimed = search rules
