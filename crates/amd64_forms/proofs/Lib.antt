@@ -2,3 +2,5 @@ pub mod Zero
 pub mod Apart
 pub mod NamesApart
 pub mod AimingLemmas
+pub mod Told
+pub mod Held

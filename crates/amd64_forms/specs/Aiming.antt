@@ -1,6 +1,7 @@
 -- The forms of branches, and the addresses that instructions hold as a distance from their ends: the goals of branches and the places
 -- of symbols.
-use Rattle.std.specs.Prelude.{ℕ, zero, suc, ℤ, pos, Bool, true, false, List, [], ◌∷◌, Option, Some, None}
+use Rattle.std.specs.Prelude.{ℕ, zero, suc, ℤ, pos, Bool, true, false, List, [], ◌∷◌, Option, Some, None, ◌&&◌, is_some, if◌then◌else◌}
+use Rattle.machine_effect.specs.Numbers.{fits as fits_bits}
 use Rattle.amd64_table.specs.declared.memory.Mem.{Mem}
 use Rattle.amd64_table.specs.declared.memory.Mem.TheVariants as memory
 use Rattle.amd64_table.specs.declared.memory.Rm.{Rm}
@@ -55,6 +56,11 @@ unfoldable pub distance_bits : Instr → ℕ
 distance_bits (instr.Short code distance) = 8
 distance_bits _ = 32
 
+unfoldable pub is_branch : Instr → Bool
+is_branch (instr.Short code distance) = true
+is_branch (instr.Near op distance) = true
+is_branch _ = false
+
 abbrev pub mem_by : ℤ → Mem → Mem
 mem_by distance (memory.Symbol old) = memory.Symbol distance
 mem_by distance mem = mem
@@ -107,3 +113,8 @@ long_of i = i
 unfoldable pub forms_of : Instr → ℕ → List Instr
 forms_of i zero = short_of i ∷ []
 forms_of i (suc n) = long_of i ∷ []
+
+-- the instruction with this distance, where it has one and these are few enough bits
+abbrev pub aimed : Instr → ℤ → Option Instr
+aimed i distance =
+    if is_some (distance_of i) && fits_bits (distance_bits i) distance then Some (aimed_by distance i) else None

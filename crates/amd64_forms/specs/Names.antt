@@ -36,4 +36,3 @@ alias_text alias.Adjsp = codes "ADJSP"
 alias_text alias.Nop = codes "NOP"
 alias_text alias.Pcdata = codes "PCDATA"
 alias_text alias.Funcdata = codes "FUNCDATA"
-

@@ -1,4 +1,4 @@
-ghost use Rattle.std.specs.Prelude.{◌≡◌, ℕ, ℤ, ◌<◌, ◌&&◌, Some, None, is_some, IsTrue, if◌then◌else◌};
+ghost use Rattle.std.specs.Prelude.{◌≡◌, ℕ, ℤ, ◌<◌, ◌&&◌, Some, None, is_some, IsTrue, true, if◌then◌else◌};
 ghost use Rattle.machine_effect.specs.Numbers.{fits as fits_bits, moved_by};
 ghost use Rattle.amd64_forms.specs.Aiming as spec;
 
@@ -10,8 +10,17 @@ pub fn short_form(instr: Instr) -> Instr
     ensures { result ≡ spec.short_of instr }
 {
     match instr {
-        Instr::Near { op: Near::Jmp, .. } => Instr::Short { code: None, distance: 0 },
-        Instr::Near { op: Near::If(code), .. } => Instr::Short { code: Some(code), distance: 0 },
+        Instr::Near { op: Near::Jmp, .. } => Instr::Short {
+            code: None,
+            distance: 0,
+        },
+        Instr::Near {
+            op: Near::If(code),
+            ..
+        } => Instr::Short {
+            code: Some(code),
+            distance: 0,
+        },
         instr => instr,
     }
 }
@@ -21,8 +30,20 @@ pub fn long_form(instr: Instr) -> Instr
     ensures { result ≡ spec.long_of instr }
 {
     match instr {
-        Instr::Short { code: None, distance } => Instr::Near { op: Near::Jmp, distance: i32::from(distance) },
-        Instr::Short { code: Some(code), distance } => Instr::Near { op: Near::If(code), distance: i32::from(distance) },
+        Instr::Short {
+            code: None,
+            distance,
+        } => Instr::Near {
+            op: Near::Jmp,
+            distance: i32::from(distance),
+        },
+        Instr::Short {
+            code: Some(code),
+            distance,
+        } => Instr::Near {
+            op: Near::If(code),
+            distance: i32::from(distance),
+        },
         instr => instr,
     }
 }
@@ -37,52 +58,221 @@ pub fn distance(from: u64, to: u64) -> i64
 
 /// The instruction with this distance, in bytes, from its end to the address that it holds; `None` exactly where it holds no
 /// address, or the distance has too many bits.
-#[tactic(auto, unfolding(crate::specs::Aiming::distance_of, crate::specs::Aiming::distance_bits, crate::specs::Aiming::aimed_by, crate::specs::Aiming::place_in))]
 pub fn aimed(instr: Instr, distance: i64) -> Option<Instr>
-    ensures { result ≡ (if is_some (spec.distance_of instr) && fits_bits (spec.distance_bits instr) distance then Some (spec.aimed_by distance instr) else None) }
+    ensures { result ≡ spec.aimed instr distance }
+{
+    if is_branch(instr) {
+        aimed_branch(instr, distance)
+    } else {
+        aimed_symbol(instr, distance)
+    }
+}
+
+#[tactic(auto, unfolding(crate::specs::Aiming::is_branch))]
+fn is_branch(instr: Instr) -> bool
+    ensures { result ≡ spec.is_branch instr }
+{
+    matches!(instr, Instr::Short { .. } | Instr::Near { .. })
+}
+
+// A branch with this distance to its goal.
+#[tactic(auto, unfolding(crate::specs::Aiming::is_branch, crate::specs::Aiming::distance_of, crate::specs::Aiming::distance_bits, crate::specs::Aiming::aimed_by))]
+fn aimed_branch(instr: Instr, distance: i64) -> Option<Instr>
+    ensures { spec.is_branch instr ≡ true → result ≡ spec.aimed instr distance }
 {
     match instr {
-        Instr::Short { code, .. } => Some(Instr::Short { code, distance: byte_of(distance)? }),
-        Instr::Near { op, .. } => Some(Instr::Near { op, distance: long_of(distance)? }),
-        instr => aimed_symbol(instr, long_of(distance)?),
+        Instr::Short { code, .. } => Some(Instr::Short {
+            code,
+            distance: byte_of(distance)?,
+        }),
+        Instr::Near { op, .. } => Some(Instr::Near {
+            op,
+            distance: long_of(distance)?,
+        }),
+        _ => None,
     }
 }
 
 // An instruction other than a branch, with this distance to its symbol.
 #[tactic(auto, unfolding(crate::specs::Aiming::aimed_by, crate::specs::Aiming::place_in))]
-fn aimed_symbol(instr: Instr, distance: i32) -> Option<Instr>
-    ensures { result ≡ (if is_some (spec.symbol_distance (spec.place_in instr)) then Some (spec.aimed_by distance instr) else None) }
+fn aimed_symbol(instr: Instr, distance: i64) -> Option<Instr>
+    ensures { result ≡ (if is_some (spec.symbol_distance (spec.place_in instr)) && fits_bits 32 distance then Some (spec.aimed_by distance instr) else None) }
 {
     let aimed = match instr {
-        Instr::RegRm { op, width, reg, rm } => Instr::RegRm { op, width, reg, rm: symbol_rm(rm, distance)? },
-        Instr::ArithmeticReg { op, lock, width, from, to } => Instr::ArithmeticReg { op, lock, width, from, to: symbol_rm(to, distance)? },
-        Instr::MemReg { op, width, mem, reg } => Instr::MemReg { op, width, mem: symbol_mem(mem, distance)?, reg },
-        Instr::ArithmeticConst { op, lock, width, constant, to } => Instr::ArithmeticConst { op, lock, width, constant, to: symbol_rm(to, distance)? },
-        Instr::CompareConst { width, rm, constant } => Instr::CompareConst { width, rm: symbol_rm(rm, distance)?, constant },
-        Instr::StoreLow { size, from, to } => Instr::StoreLow { size, from, to: symbol_mem(to, distance)? },
-        Instr::Extend { op, from, to } => Instr::Extend { op, from: symbol_rm(from, distance)?, to },
-        Instr::StoreConst { width, constant, to } => Instr::StoreConst { width, constant, to: symbol_mem(to, distance)? },
-        Instr::StoreByte { constant, to } => Instr::StoreByte { constant, to: symbol_mem(to, distance)? },
-        Instr::Lea { from, to } => Instr::Lea { from: symbol_mem(from, distance)?, to },
-        Instr::Unary { op, lock, width, rm } => Instr::Unary { op, lock, width, rm: symbol_rm(rm, distance)? },
-        Instr::MulDiv { op, width, rm } => Instr::MulDiv { op, width, rm: symbol_rm(rm, distance)? },
-        Instr::RmReg { op, width, from, to } => Instr::RmReg { op, width, from: symbol_rm(from, distance)?, to },
-        Instr::ShiftConst { op, width, count, rm } => Instr::ShiftConst { op, width, count, rm: symbol_rm(rm, distance)? },
-        Instr::ShiftCx { op, width, rm } => Instr::ShiftCx { op, width, rm: symbol_rm(rm, distance)? },
-        Instr::Exchange { width, reg, mem } => Instr::Exchange { width, reg, mem: symbol_mem(mem, distance)? },
-        Instr::Atomic { op, lock, width, reg, mem } => Instr::Atomic { op, lock, width, reg, mem: symbol_mem(mem, distance)? },
-        Instr::SetCc { code, to } => Instr::SetCc { code, to: symbol_rm(to, distance)? },
-        Instr::MoveCc { code, width, from, to } => Instr::MoveCc { code, width, from: symbol_rm(from, distance)?, to },
-        Instr::Indirect { op, rm } => Instr::Indirect { op, rm: symbol_rm(rm, distance)? },
-        Instr::LoadWide { from, to } => Instr::LoadWide { from: symbol_mem(from, distance)?, to },
-        Instr::StoreWide { from, to } => Instr::StoreWide { from, to: symbol_mem(to, distance)? },
+        Instr::RegRm { op, width, reg, rm } => Instr::RegRm {
+            op,
+            width,
+            reg,
+            rm: symbol_rm(rm, distance)?,
+        },
+        Instr::ArithmeticReg {
+            op,
+            lock,
+            width,
+            from,
+            to,
+        } => Instr::ArithmeticReg {
+            op,
+            lock,
+            width,
+            from,
+            to: symbol_rm(to, distance)?,
+        },
+        Instr::MemReg {
+            op,
+            width,
+            mem,
+            reg,
+        } => Instr::MemReg {
+            op,
+            width,
+            mem: symbol_mem(mem, distance)?,
+            reg,
+        },
+        Instr::ArithmeticConst {
+            op,
+            lock,
+            width,
+            constant,
+            to,
+        } => Instr::ArithmeticConst {
+            op,
+            lock,
+            width,
+            constant,
+            to: symbol_rm(to, distance)?,
+        },
+        Instr::CompareConst {
+            width,
+            rm,
+            constant,
+        } => Instr::CompareConst {
+            width,
+            rm: symbol_rm(rm, distance)?,
+            constant,
+        },
+        Instr::StoreLow { size, from, to } => Instr::StoreLow {
+            size,
+            from,
+            to: symbol_mem(to, distance)?,
+        },
+        Instr::Extend { op, from, to } => Instr::Extend {
+            op,
+            from: symbol_rm(from, distance)?,
+            to,
+        },
+        Instr::StoreConst {
+            width,
+            constant,
+            to,
+        } => Instr::StoreConst {
+            width,
+            constant,
+            to: symbol_mem(to, distance)?,
+        },
+        Instr::StoreByte { constant, to } => Instr::StoreByte {
+            constant,
+            to: symbol_mem(to, distance)?,
+        },
+        Instr::Lea { from, to } => Instr::Lea {
+            from: symbol_mem(from, distance)?,
+            to,
+        },
+        Instr::Unary {
+            op,
+            lock,
+            width,
+            rm,
+        } => Instr::Unary {
+            op,
+            lock,
+            width,
+            rm: symbol_rm(rm, distance)?,
+        },
+        Instr::MulDiv { op, width, rm } => Instr::MulDiv {
+            op,
+            width,
+            rm: symbol_rm(rm, distance)?,
+        },
+        Instr::RmReg {
+            op,
+            width,
+            from,
+            to,
+        } => Instr::RmReg {
+            op,
+            width,
+            from: symbol_rm(from, distance)?,
+            to,
+        },
+        Instr::ShiftConst {
+            op,
+            width,
+            count,
+            rm,
+        } => Instr::ShiftConst {
+            op,
+            width,
+            count,
+            rm: symbol_rm(rm, distance)?,
+        },
+        Instr::ShiftCx { op, width, rm } => Instr::ShiftCx {
+            op,
+            width,
+            rm: symbol_rm(rm, distance)?,
+        },
+        Instr::Exchange { width, reg, mem } => Instr::Exchange {
+            width,
+            reg,
+            mem: symbol_mem(mem, distance)?,
+        },
+        Instr::Atomic {
+            op,
+            lock,
+            width,
+            reg,
+            mem,
+        } => Instr::Atomic {
+            op,
+            lock,
+            width,
+            reg,
+            mem: symbol_mem(mem, distance)?,
+        },
+        Instr::SetCc { code, to } => Instr::SetCc {
+            code,
+            to: symbol_rm(to, distance)?,
+        },
+        Instr::MoveCc {
+            code,
+            width,
+            from,
+            to,
+        } => Instr::MoveCc {
+            code,
+            width,
+            from: symbol_rm(from, distance)?,
+            to,
+        },
+        Instr::Indirect { op, rm } => Instr::Indirect {
+            op,
+            rm: symbol_rm(rm, distance)?,
+        },
+        Instr::LoadWide { from, to } => Instr::LoadWide {
+            from: symbol_mem(from, distance)?,
+            to,
+        },
+        Instr::StoreWide { from, to } => Instr::StoreWide {
+            from,
+            to: symbol_mem(to, distance)?,
+        },
         _ => return None,
     };
     Some(aimed)
 }
 
-fn symbol_rm(rm: Rm, distance: i32) -> Option<Rm>
-    ensures { result ≡ (if is_some (spec.symbol_distance (spec.rm_place rm)) then Some (spec.rm_by distance rm) else None) }
+fn symbol_rm(rm: Rm, distance: i64) -> Option<Rm>
+    ensures { result ≡ (if is_some (spec.symbol_distance (spec.rm_place rm)) && fits_bits 32 distance then Some (spec.rm_by distance rm) else None) }
 {
     match rm {
         Rm::Mem(mem) => Some(Rm::Mem(symbol_mem(mem, distance)?)),
@@ -90,11 +280,11 @@ fn symbol_rm(rm: Rm, distance: i32) -> Option<Rm>
     }
 }
 
-fn symbol_mem(mem: Mem, distance: i32) -> Option<Mem>
-    ensures { result ≡ (if is_some (spec.symbol_distance (Some mem)) then Some (spec.mem_by distance mem) else None) }
+fn symbol_mem(mem: Mem, distance: i64) -> Option<Mem>
+    ensures { result ≡ (if is_some (spec.symbol_distance (Some mem)) && fits_bits 32 distance then Some (spec.mem_by distance mem) else None) }
 {
     match mem {
-        Mem::Symbol { .. } => Some(Mem::Symbol { distance }),
+        Mem::Symbol { .. } => Some(Mem::Symbol { distance: long_of(distance)? }),
         _ => None,
     }
 }

@@ -8,19 +8,38 @@ ghost use Rattle.amd64_table.specs.declared.operand.Operand.TheVariants as opera
 
 use crate::operands::{count_of, long_of, rm_of};
 use amd64_table::{
-    Arithmetic, Atomic, Cc, Instr, MemReg, Mem, MulDiv, Operand, Reg, RegRm, RmReg, ShiftOp, Unary, Width,
+    Arithmetic, Atomic, Cc, Instr, Mem, MemReg, MulDiv, Operand, Reg, RegRm, RmReg, ShiftOp, Unary,
+    Width,
 };
 
 /// ADDQ and its kin.
 #[tactic(auto, unfolding(amd64_table::specs::Mnemonics::mnemonic_of, amd64_table::specs::Texts::operands_of, amd64_table::specs::Texts::reg_rm_operands, amd64_table::specs::Texts::mem_reg_operands, amd64_table::specs::Texts::is_locked, amd64_table::specs::Fits::fits, crate::specs::Listed::is_short))]
-pub fn arithmetic(op: Arithmetic, width: Width, lock: bool, first: Operand, second: Operand) -> Option<Instr>
+pub fn arithmetic(
+    op: Arithmetic,
+    width: Width,
+    lock: bool,
+    first: Operand,
+    second: Operand,
+) -> Option<Instr>
     ensures found { IfSome result (λ i. Shows (name.Arithmetic op width) (Some first, Some second) i) }
     ensures only { (i : Instr) → IsTrue (fits i) → Shows (name.Arithmetic op width) (Some first, Some second) i → is_locked i ≡ lock → result ≡ Some i }
 {
     match first {
-        Operand::Reg(from) => Some(Instr::ArithmeticReg { op, lock, width, from, to: rm_of(second)? }),
+        Operand::Reg(from) => Some(Instr::ArithmeticReg {
+            op,
+            lock,
+            width,
+            from,
+            to: rm_of(second)?,
+        }),
         Operand::Mem(mem) => arithmetic_load(op, width, mem, second),
-        Operand::Const(constant) => Some(Instr::ArithmeticConst { op, lock, width, constant: long_of(constant)?, to: rm_of(second)? }),
+        Operand::Const(constant) => Some(Instr::ArithmeticConst {
+            op,
+            lock,
+            width,
+            constant: long_of(constant)?,
+            to: rm_of(second)?,
+        }),
         _ => None,
     }
 }
@@ -32,7 +51,12 @@ pub fn arithmetic_load(op: Arithmetic, width: Width, mem: Mem, second: Operand) 
     ensures only { (i : Instr) → IsTrue (fits i) → Shows (name.Arithmetic op width) (Some (operand.Mem mem), Some second) i → result ≡ Some i }
 {
     match second {
-        Operand::Reg(reg) => Some(Instr::MemReg { op: MemReg::Arithmetic(op), width, mem, reg }),
+        Operand::Reg(reg) => Some(Instr::MemReg {
+            op: MemReg::Arithmetic(op),
+            width,
+            mem,
+            reg,
+        }),
         _ => None,
     }
 }
@@ -44,9 +68,18 @@ pub fn cmp(width: Width, first: Operand, second: Operand) -> Option<Instr>
     ensures only { (i : Instr) → IsTrue (fits i) → Shows (name.Cmp width) (Some first, Some second) i → result ≡ Some i }
 {
     match second {
-        Operand::Reg(reg) => Some(Instr::RegRm { op: RegRm::Cmp, width, reg, rm: rm_of(first)? }),
+        Operand::Reg(reg) => Some(Instr::RegRm {
+            op: RegRm::Cmp,
+            width,
+            reg,
+            rm: rm_of(first)?,
+        }),
         Operand::Mem(mem) => cmp_mem(width, first, mem),
-        Operand::Const(constant) => Some(Instr::CompareConst { width, rm: rm_of(first)?, constant: long_of(constant)? }),
+        Operand::Const(constant) => Some(Instr::CompareConst {
+            width,
+            rm: rm_of(first)?,
+            constant: long_of(constant)?,
+        }),
         _ => None,
     }
 }
@@ -58,7 +91,12 @@ pub fn cmp_mem(width: Width, first: Operand, mem: Mem) -> Option<Instr>
     ensures only { (i : Instr) → IsTrue (fits i) → Shows (name.Cmp width) (Some first, Some (operand.Mem mem)) i → result ≡ Some i }
 {
     match first {
-        Operand::Reg(reg) => Some(Instr::MemReg { op: MemReg::Cmp, width, mem, reg }),
+        Operand::Reg(reg) => Some(Instr::MemReg {
+            op: MemReg::Cmp,
+            width,
+            mem,
+            reg,
+        }),
         _ => None,
     }
 }
@@ -70,7 +108,12 @@ pub fn test(width: Width, first: Operand, second: Operand) -> Option<Instr>
     ensures only { (i : Instr) → IsTrue (fits i) → Shows (name.Test width) (Some first, Some second) i → result ≡ Some i }
 {
     match first {
-        Operand::Reg(reg) => Some(Instr::RegRm { op: RegRm::Test, width, reg, rm: rm_of(second)? }),
+        Operand::Reg(reg) => Some(Instr::RegRm {
+            op: RegRm::Test,
+            width,
+            reg,
+            rm: rm_of(second)?,
+        }),
         _ => None,
     }
 }
@@ -81,7 +124,12 @@ pub fn unary(op: Unary, width: Width, lock: bool, operand: Operand) -> Option<In
     ensures found { IfSome result (λ i. Shows (name.Unary op width) (Some operand, None) i) }
     ensures only { (i : Instr) → IsTrue (fits i) → Shows (name.Unary op width) (Some operand, None) i → is_locked i ≡ lock → result ≡ Some i }
 {
-    Some(Instr::Unary { op, lock, width, rm: rm_of(operand)? })
+    Some(Instr::Unary {
+        op,
+        lock,
+        width,
+        rm: rm_of(operand)?,
+    })
 }
 
 /// MULQ and its kin.
@@ -90,7 +138,11 @@ pub fn mul_div(op: MulDiv, width: Width, operand: Operand) -> Option<Instr>
     ensures found { IfSome result (λ i. Shows (name.MulDiv op width) (Some operand, None) i) }
     ensures only { (i : Instr) → IsTrue (fits i) → Shows (name.MulDiv op width) (Some operand, None) i → result ≡ Some i }
 {
-    Some(Instr::MulDiv { op, width, rm: rm_of(operand)? })
+    Some(Instr::MulDiv {
+        op,
+        width,
+        rm: rm_of(operand)?,
+    })
 }
 
 /// IMULQ and its kin.
@@ -100,7 +152,12 @@ pub fn rm_reg(op: RmReg, width: Width, first: Operand, second: Operand) -> Optio
     ensures only { (i : Instr) → IsTrue (fits i) → Shows (name.RmReg op width) (Some first, Some second) i → result ≡ Some i }
 {
     match second {
-        Operand::Reg(to) => Some(Instr::RmReg { op, width, from: rm_of(first)?, to }),
+        Operand::Reg(to) => Some(Instr::RmReg {
+            op,
+            width,
+            from: rm_of(first)?,
+            to,
+        }),
         _ => None,
     }
 }
@@ -112,8 +169,17 @@ pub fn shift(op: ShiftOp, width: Width, first: Operand, second: Operand) -> Opti
     ensures only { (i : Instr) → IsTrue (fits i) → Shows (name.Shift op width) (Some first, Some second) i → result ≡ Some i }
 {
     match first {
-        Operand::Const(count) => Some(Instr::ShiftConst { op, width, count: count_of(width, count)?, rm: rm_of(second)? }),
-        Operand::Reg(Reg::Cx) => Some(Instr::ShiftCx { op, width, rm: rm_of(second)? }),
+        Operand::Const(count) => Some(Instr::ShiftConst {
+            op,
+            width,
+            count: count_of(width, count)?,
+            rm: rm_of(second)?,
+        }),
+        Operand::Reg(Reg::Cx) => Some(Instr::ShiftCx {
+            op,
+            width,
+            rm: rm_of(second)?,
+        }),
         _ => None,
     }
 }
@@ -132,12 +198,24 @@ pub fn exchange(width: Width, first: Operand, second: Operand) -> Option<Instr>
 
 /// CMPXCHGQ and its kin.
 #[tactic(auto, unfolding(amd64_table::specs::Mnemonics::mnemonic_of, amd64_table::specs::Texts::operands_of, amd64_table::specs::Texts::reg_rm_operands, amd64_table::specs::Texts::mem_reg_operands, amd64_table::specs::Texts::is_locked, amd64_table::specs::Fits::fits, crate::specs::Listed::is_short))]
-pub fn atomic(op: Atomic, width: Width, lock: bool, first: Operand, second: Operand) -> Option<Instr>
+pub fn atomic(
+    op: Atomic,
+    width: Width,
+    lock: bool,
+    first: Operand,
+    second: Operand,
+) -> Option<Instr>
     ensures found { IfSome result (λ i. Shows (name.Atomic op width) (Some first, Some second) i) }
     ensures only { (i : Instr) → IsTrue (fits i) → Shows (name.Atomic op width) (Some first, Some second) i → is_locked i ≡ lock → result ≡ Some i }
 {
     match (first, second) {
-        (Operand::Reg(reg), Operand::Mem(mem)) => Some(Instr::Atomic { op, lock, width, reg, mem }),
+        (Operand::Reg(reg), Operand::Mem(mem)) => Some(Instr::Atomic {
+            op,
+            lock,
+            width,
+            reg,
+            mem,
+        }),
         _ => None,
     }
 }
@@ -148,7 +226,10 @@ pub fn set_cc(code: Cc, operand: Operand) -> Option<Instr>
     ensures found { IfSome result (λ i. Shows (name.SetCc code) (Some operand, None) i) }
     ensures only { (i : Instr) → IsTrue (fits i) → Shows (name.SetCc code) (Some operand, None) i → result ≡ Some i }
 {
-    Some(Instr::SetCc { code, to: rm_of(operand)? })
+    Some(Instr::SetCc {
+        code,
+        to: rm_of(operand)?,
+    })
 }
 
 /// BSWAPQ and BSWAPL.

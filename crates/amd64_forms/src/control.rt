@@ -26,8 +26,14 @@ pub fn jump(operand: Operand) -> Option<Instr>
     ensures only { (i : Instr) → IsTrue (fits i) → Shows (name.Jump) (Some operand, None) i → result ≡ Some i }
 {
     match operand {
-        Operand::Goal(distance) => Some(Instr::Near { op: Near::Jmp, distance: long_of(distance)? }),
-        operand => Some(Instr::Indirect { op: Indirect::Jmp, rm: rm_of(operand)? }),
+        Operand::Goal(distance) => Some(Instr::Near {
+            op: Near::Jmp,
+            distance: long_of(distance)?,
+        }),
+        operand => Some(Instr::Indirect {
+            op: Indirect::Jmp,
+            rm: rm_of(operand)?,
+        }),
     }
 }
 
@@ -38,8 +44,14 @@ pub fn call(operand: Operand) -> Option<Instr>
     ensures only { (i : Instr) → IsTrue (fits i) → Shows (name.Call) (Some operand, None) i → result ≡ Some i }
 {
     match operand {
-        Operand::Goal(distance) => Some(Instr::Near { op: Near::Call, distance: long_of(distance)? }),
-        operand => Some(Instr::Indirect { op: Indirect::Call, rm: rm_of(operand)? }),
+        Operand::Goal(distance) => Some(Instr::Near {
+            op: Near::Call,
+            distance: long_of(distance)?,
+        }),
+        operand => Some(Instr::Indirect {
+            op: Indirect::Call,
+            rm: rm_of(operand)?,
+        }),
     }
 }
 
@@ -50,7 +62,10 @@ pub fn jump_if(code: Cc, operand: Operand) -> Option<Instr>
     ensures only { (i : Instr) → IsTrue (fits i) → Shows (name.JumpIf code) (Some operand, None) i → result ≡ Some i }
 {
     match operand {
-        Operand::Goal(distance) => Some(Instr::Near { op: Near::If(code), distance: long_of(distance)? }),
+        Operand::Goal(distance) => Some(Instr::Near {
+            op: Near::If(code),
+            distance: long_of(distance)?,
+        }),
         _ => None,
     }
 }

@@ -9,7 +9,11 @@ use amd64_table::{Instr, Mnemonic, Operand, fits, is_locked};
 
 /// The listed instruction with this name and these operands, LOCK before it or not; `None` exactly where there is none.
 /// Of a branch it's the long one, and its operand is a goal.
-pub fn listed(mnemonic: Mnemonic, lock: bool, operands: (Option<Operand>, Option<Operand>)) -> Option<Instr>
+pub fn listed(
+    mnemonic: Mnemonic,
+    lock: bool,
+    operands: (Option<Operand>, Option<Operand>),
+) -> Option<Instr>
     ensures found { IfSome result (λ i. Writes mnemonic lock operands i) }
     ensures only { (i : Instr) → Writes mnemonic lock operands i → result ≡ Some i }
 {
@@ -22,7 +26,11 @@ pub fn listed(mnemonic: Mnemonic, lock: bool, operands: (Option<Operand>, Option
 }
 
 #[tactic(auto, unfolding(amd64_table::specs::Mnemonics::mnemonic_of, amd64_table::specs::Texts::operands_of, amd64_table::specs::Texts::reg_rm_operands, amd64_table::specs::Texts::mem_reg_operands, amd64_table::specs::Texts::is_locked, amd64_table::specs::Fits::fits, crate::specs::Listed::is_short))]
-fn shown(mnemonic: Mnemonic, lock: bool, operands: (Option<Operand>, Option<Operand>)) -> Option<Instr>
+fn shown(
+    mnemonic: Mnemonic,
+    lock: bool,
+    operands: (Option<Operand>, Option<Operand>),
+) -> Option<Instr>
     ensures found { IfSome result (λ i. Shows mnemonic operands i) }
     ensures only { (i : Instr) → IsTrue (fits i) → Shows mnemonic operands i → is_locked i ≡ lock → result ≡ Some i }
 {

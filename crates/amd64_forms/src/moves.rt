@@ -6,7 +6,7 @@ ghost use Rattle.amd64_forms.specs.Listed.{Shows};
 ghost use Rattle.amd64_table.specs.declared.operand.Operand.TheVariants as operand;
 
 use crate::operands::{byte_of, long_of, rm_of, unsigned_of};
-use amd64_table::{Cc, Extend, Instr, MemReg, Mem, Operand, Reg, RegRm, StoreSize, Width};
+use amd64_table::{Cc, Extend, Instr, Mem, MemReg, Operand, Reg, RegRm, StoreSize, Width};
 
 /// MOVQ and MOVL.
 #[tactic(auto, unfolding(amd64_table::specs::Mnemonics::mnemonic_of, amd64_table::specs::Texts::operands_of, amd64_table::specs::Texts::reg_rm_operands, amd64_table::specs::Texts::mem_reg_operands, amd64_table::specs::Texts::is_locked, amd64_table::specs::Fits::fits, crate::specs::Listed::is_short))]
@@ -15,7 +15,12 @@ pub fn mov(width: Width, first: Operand, second: Operand) -> Option<Instr>
     ensures only { (i : Instr) → IsTrue (fits i) → Shows (name.Mov width) (Some first, Some second) i → result ≡ Some i }
 {
     match first {
-        Operand::Reg(reg) => Some(Instr::RegRm { op: RegRm::Mov, width, reg, rm: rm_of(second)? }),
+        Operand::Reg(reg) => Some(Instr::RegRm {
+            op: RegRm::Mov,
+            width,
+            reg,
+            rm: rm_of(second)?,
+        }),
         Operand::Mem(mem) => mov_load(width, mem, second),
         Operand::Const(constant) => mov_const(width, constant, second),
         Operand::Tls => mov_tls(width, second),
@@ -30,7 +35,12 @@ pub fn mov_load(width: Width, mem: Mem, second: Operand) -> Option<Instr>
     ensures only { (i : Instr) → IsTrue (fits i) → Shows (name.Mov width) (Some (operand.Mem mem), Some second) i → result ≡ Some i }
 {
     match second {
-        Operand::Reg(reg) => Some(Instr::MemReg { op: MemReg::Mov, width, mem, reg }),
+        Operand::Reg(reg) => Some(Instr::MemReg {
+            op: MemReg::Mov,
+            width,
+            mem,
+            reg,
+        }),
         _ => None,
     }
 }
@@ -43,7 +53,11 @@ pub fn mov_const(width: Width, constant: i64, second: Operand) -> Option<Instr>
 {
     match second {
         Operand::Reg(to) => load_const(width, constant, to),
-        Operand::Mem(to) => Some(Instr::StoreConst { width, constant: long_of(constant)?, to }),
+        Operand::Mem(to) => Some(Instr::StoreConst {
+            width,
+            constant: long_of(constant)?,
+            to,
+        }),
         _ => None,
     }
 }
@@ -55,7 +69,10 @@ pub fn load_const(width: Width, constant: i64, to: Reg) -> Option<Instr>
     ensures only { (i : Instr) → IsTrue (fits i) → Shows (name.Mov width) (Some (operand.Const constant), Some (operand.Reg to)) i → result ≡ Some i }
 {
     match width {
-        Width::L => Some(Instr::LoadLong { constant: unsigned_of(constant)?, to }),
+        Width::L => Some(Instr::LoadLong {
+            constant: unsigned_of(constant)?,
+            to,
+        }),
         Width::Q => Some(Instr::LoadQuad { constant, to }),
     }
 }
@@ -92,7 +109,10 @@ pub fn store_low_at(size: StoreSize, first: Operand, to: Mem) -> Option<Instr>
 {
     match (size, first) {
         (size, Operand::Reg(from)) => Some(Instr::StoreLow { size, from, to }),
-        (StoreSize::Byte, Operand::Const(constant)) => Some(Instr::StoreByte { constant: byte_of(constant)?, to }),
+        (StoreSize::Byte, Operand::Const(constant)) => Some(Instr::StoreByte {
+            constant: byte_of(constant)?,
+            to,
+        }),
         _ => None,
     }
 }
@@ -104,7 +124,11 @@ pub fn extend(op: Extend, first: Operand, second: Operand) -> Option<Instr>
     ensures only { (i : Instr) → IsTrue (fits i) → Shows (name.Extend op) (Some first, Some second) i → result ≡ Some i }
 {
     match second {
-        Operand::Reg(to) => Some(Instr::Extend { op, from: rm_of(first)?, to }),
+        Operand::Reg(to) => Some(Instr::Extend {
+            op,
+            from: rm_of(first)?,
+            to,
+        }),
         _ => None,
     }
 }
@@ -128,7 +152,12 @@ pub fn move_cc(width: Width, code: Cc, first: Operand, second: Operand) -> Optio
     ensures only { (i : Instr) → IsTrue (fits i) → Shows (name.MoveCc width code) (Some first, Some second) i → result ≡ Some i }
 {
     match second {
-        Operand::Reg(to) => Some(Instr::MoveCc { code, width, from: rm_of(first)?, to }),
+        Operand::Reg(to) => Some(Instr::MoveCc {
+            code,
+            width,
+            from: rm_of(first)?,
+            to,
+        }),
         _ => None,
     }
 }

@@ -10,15 +10,20 @@ use amd64_table::{
 };
 
 /// The name of the list that is written so; `None` exactly where none is.
-#[tactic(auto, using(crate::proofs::NamesApart::mnemonics_apart), unfolding(crate::specs::Groups::group_of))]
+#[tactic(auto, using(crate::proofs::NamesApart::mnemonics_apart, crate::proofs::NamesApart::groups))]
 pub fn mnemonic_named(name: &[u8]) -> Option<Mnemonic>
     ensures found { IfSome result (λ m. mnemonic_text m ≡ name.now) }
     ensures only { (m : Mnemonic) → mnemonic_text m ≡ name.now → result ≡ Some m }
 {
-    whole(name)
-        .or_else(|| computing(name))
-        .or_else(|| moving(name))
-        .or_else(|| conditional(name))
+    if let Some(whole) = whole(name) {
+        Some(whole)
+    } else if let Some(computing) = computing(name) {
+        Some(computing)
+    } else if let Some(moving) = moving(name) {
+        Some(moving)
+    } else {
+        conditional(name)
+    }
 }
 
 // Names that tell neither a width nor a condition.

@@ -83,7 +83,10 @@ pub fn stands(spoken: Spoken, first: Option<Resolved>, second: Option<Resolved>)
             Some(Resolved::Plain(Operand::Reg(to))),
         ) => Some((
             Mnemonic::Mov(Width::L),
-            (Some(Operand::Const(wrapped(constant))), Some(Operand::Reg(to))),
+            (
+                Some(Operand::Const(wrapped(constant))),
+                Some(Operand::Reg(to)),
+            ),
         )),
         (
             Spoken::Listed(Mnemonic::Mov(Width::Q)),
@@ -104,12 +107,17 @@ pub fn stands(spoken: Spoken, first: Option<Resolved>, second: Option<Resolved>)
         (Spoken::Listed(mnemonic), first, second) => itself(mnemonic, first, second),
         (Spoken::Widen, first, second) => itself(Mnemonic::Mov(Width::L), first, second),
         (Spoken::ToLabel(code), Some(Resolved::Plain(Operand::Goal(distance))), None) => {
-            Some((Mnemonic::JumpIf(code), (Some(Operand::Goal(distance)), None)))
+            Some((
+                Mnemonic::JumpIf(code),
+                (Some(Operand::Goal(distance)), None),
+            ))
         }
         (Spoken::Direct(near), Some(Resolved::Plain(Operand::Goal(distance))), None) => {
             Some((direct_of(near), (Some(Operand::Goal(distance)), None)))
         }
-        (Spoken::Adjust, Some(Resolved::Plain(Operand::Const(constant))), None) => adjusted(constant),
+        (Spoken::Adjust, Some(Resolved::Plain(Operand::Const(constant))), None) => adjusted(
+            constant,
+        ),
         _ => None,
     }
 }
@@ -159,7 +167,10 @@ fn adjusted(constant: i64) -> Option<Written>
         let negated = long_of(constant.checked_neg()?)?;
         Some((
             Mnemonic::Arithmetic(Arithmetic::Add, Width::Q),
-            (Some(Operand::Const(i64::from(negated))), Some(Operand::Reg(Reg::Sp))),
+            (
+                Some(Operand::Const(i64::from(negated))),
+                Some(Operand::Reg(Reg::Sp)),
+            ),
         ))
     }
 }
@@ -180,7 +191,12 @@ fn itself(mnemonic: Mnemonic, first: Option<Resolved>, second: Option<Resolved>)
 
 /// The instruction that a statement becomes; `None` exactly where it becomes none.
 #[tactic(auto, unfolding(crate::specs::Rows::Becomes))]
-pub fn chosen(spoken: Spoken, lock: bool, first: Option<Resolved>, second: Option<Resolved>) -> Option<Instr>
+pub fn chosen(
+    spoken: Spoken,
+    lock: bool,
+    first: Option<Resolved>,
+    second: Option<Resolved>,
+) -> Option<Instr>
     ensures fits { IfSome result (λ i. IsTrue (fits i)) }
     ensures found { IfSome result (λ i. spec.Becomes spoken lock first second i) }
     ensures only { (i : Instr) → spec.Becomes spoken lock first second i → result ≡ Some i }

@@ -1,6 +1,8 @@
-pub mod Clean
 pub mod Laws
 pub mod Frames
 pub mod Operands
 pub mod Selecting
 pub mod Aims
+pub mod AimLaws
+pub mod JumpLaws
+pub mod FrameLaws
