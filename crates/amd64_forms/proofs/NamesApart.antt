@@ -1,5 +1,5 @@
 -- No name of the instruction list is that of two instructions, or is another name.
-use Rattle.std.proofs.Common.{◌≡◌, ◌⊎◌, ℕ, List, refl, sym, ap, rules, arith, codes, inl, inr}
+use Rattle.std.proofs.Common.{◌≡◌, ◌⊎◌, ℕ, List, [], ◌∷◌, refl, sym, ap, rules, arith, codes, inl, inr}
 use Rattle.amd64_table.specs.declared.condition.Cc.{Cc}
 use Rattle.amd64_table.specs.declared.width.Width.{Width}
 use Rattle.amd64_table.specs.declared.width.Width.TheVariants.{Q, L}
@@ -149,6 +149,14 @@ ccs_apart : (one other : Cc) → cc_text one ≡ cc_text other → one ≡ other
 unfolding cc_text
 ccs_apart = search rules
 
+-- the letter of the width
+abbrev fifth : List ℕ → ℕ
+fifth (a ∷ b ∷ c ∷ d ∷ e ∷ more) = e
+fifth _ = 0
+
+letters : (one other : ℕ) → ¬ (one ≡ other) → one ≡ other → ⊥
+letters one other apart same = apart same
+
 moves_apart : (width : Width) (code : Cc) (width' : Width) (code' : Cc)
     → mnemonic_text (name.MoveCc width code) ≡ mnemonic_text (name.MoveCc width' code')
     → name.MoveCc width code ≡ name.MoveCc width' code'
@@ -157,8 +165,8 @@ moves_apart Q code Q code' same =
     let tails : cc_text code ≡ cc_text code' = cc in ap (λ (code : Cc). name.MoveCc Q code) (ccs_apart code code' tails)
 moves_apart L code L code' same =
     let tails : cc_text code ≡ cc_text code' = cc in ap (λ (code : Cc). name.MoveCc L code) (ccs_apart code code' tails)
-moves_apart Q code L code' same = let letters : 81 ≡ 76 = cc in absurd (omega arith)
-moves_apart L code Q code' same = let letters : 76 ≡ 81 = cc in absurd (omega arith)
+moves_apart Q code L code' same = absurd (letters 81 76 (omega arith) (ap fifth same))
+moves_apart L code Q code' same = absurd (letters 76 81 (omega arith) (ap fifth same))
 
 atomic_no_move : (op : Atomic) (width : Width) (width' : Width) (code : Cc)
     → mnemonic_text (name.Atomic op width) ≡ mnemonic_text (name.MoveCc width' code) → ⊥

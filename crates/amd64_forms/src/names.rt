@@ -10,7 +10,7 @@ use amd64_table::{
 };
 
 /// The name of the list that is written so; `None` exactly where none is.
-#[tactic(auto, using(crate::proofs::NamesApart::mnemonics_apart, crate::proofs::NamesApart::groups))]
+#[tactic(auto, using(crate::proofs::NamesApart::groups))]
 pub fn mnemonic_named(name: &[u8]) -> Option<Mnemonic>
     ensures found { IfSome result (λ m. mnemonic_text m ≡ name.now) }
     ensures only { (m : Mnemonic) → mnemonic_text m ≡ name.now → result ≡ Some m }

@@ -8,7 +8,7 @@ use crate::registers::{cc_named, reg_named, xmm_named};
 use crate::rows::{Spoken, meaning_of};
 
 /// What a statement's name says; `None` exactly where there is no such name.
-#[tactic(auto, using(crate::proofs::NamesApart::mnemonics_apart, crate::proofs::NamesApart::mnemonic_no_alias, crate::proofs::Apart::aliases_apart))]
+#[tactic(auto, using(crate::proofs::Apart::aliases_apart))]
 pub fn spoken(name: &[u8]) -> Option<Spoken>
     ensures found { IfSome result (λ spoken. Says name.now spoken) }
     ensures only { (spoken : Spoken) → Says name.now spoken → result ≡ Some spoken }
