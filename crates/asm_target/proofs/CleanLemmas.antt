@@ -1,7 +1,6 @@
 -- When an instruction breaks no flow rule.
-use Rattle.std.proofs.Common.{◌≡◌, ℕ, zero, suc, ◌<◌, ◌≤◌, ◌==◌, ◌&&◌, ◌||◌, ◌⊎◌, inl, inr, Bool, true, false, not, ℤ, pos, refl, sym, ap, ◌∙◌, subst, arith, if◌then◌else◌, is_some}
+use Rattle.std.proofs.Common.{◌≡◌, ℕ, zero, suc, ◌<◌, ◌≤◌, ◌==◌, ◌&&◌, ◌||◌, ◌⊎◌, inl, inr, Bool, true, false, not, pos, refl, sym, ap, ◌∙◌, subst, arith, if◌then◌else◌, is_some}
 use Rattle.std.proofs.lemmas.Bool.Decides.{nat_tests, Decides-int_eq, Decides-eqb}
-use Rattle.std.proofs.lemmas.Int.{ints}
 use Rattle.std.specs.Ordering.{int_eq}
 use Rattle.std.specs.Prelude.{int_lt}
 use Rattle.machine_effect.specs.declared.next.Next.{Next}
@@ -25,7 +24,7 @@ and_not : (a b : Bool) → (a ≡ true → b ≡ true) → (a && not b) ≡ fals
 and_not false b holds = refl
 and_not true b holds = rw (holds refl) refl
 
-either : (test one other : Bool) → one ≡ false → other ≡ false → (if test then one else other) ≡ false
+pub either : (test one other : Bool) → one ≡ false → other ≡ false → (if test then one else other) ≡ false
 either true one other first second = first
 either false one other first second = second
 

@@ -1,8 +1,5 @@
 -- Code that makes or leaves a frame, by the flow rules.
-use Rattle.std.proofs.Common.{◌≡◌, ℕ, zero, suc, List, [], ◌∷◌, ◌++◌, ◌+◌, ◌<◌, ◌≤◌, ◌==◌, ◌⊎◌, Bool, true, false, Some, None, ℤ, pos, length, drop, refl, sym, ap, ◌∙◌, subst, arith, inl, inr, is_some}
-use Rattle.std.proofs.lemmas.Bool.Decides.{nat_tests}
-use Rattle.std.proofs.lemmas.Int.{ints}
-use Rattle.std.proofs.lemmas.List.{drop-drop}
+use Rattle.std.proofs.Common.{◌≡◌, ℕ, zero, suc, List, [], ◌∷◌, ◌+◌, ◌<◌, ◌≤◌, false, Some, None, pos, length, refl, sym, ap, ◌∙◌, subst, arith}
 use Rattle.std.proofs.lemmas.Option.{slice_get_within}
 use Rattle.std.specs.List.{slice_get}
 use Rattle.std.specs.Prelude.{◌+ℤ◌}
@@ -11,16 +8,13 @@ use Rattle.machine_effect.specs.declared.flow.Shape.{Shape}
 use Rattle.machine_effect.specs.declared.next.Next.TheVariants as next
 use Rattle.machine_effect.specs.Flow.{flow_of}
 use Rattle.asm_target.specs.declared.sequence.Sequence.{Sequence}
-use Rattle.asm_target.specs.DepthChange.{added_within, depth_added, depth_change, ends_sequence, is_at_depth, longest}
-use Rattle.asm_target.specs.FlowFunction.{FlowFunction, depth_view, is_in_order, next_at, outgoing, role_at, sequence_at, span_at, start_at}
-use Rattle.asm_target.specs.FlowRules.{breaks_f2, breaks_f8, greatest_depth, is_growth_call, is_other}
+use Rattle.asm_target.specs.DepthChange.{depth_added, depth_change}
+use Rattle.asm_target.specs.FlowFunction.{FlowFunction, next_at, outgoing}
+use Rattle.asm_target.specs.FlowRules.{breaks_f2, breaks_f8, greatest_depth, is_other}
 use Rattle.asm_target.specs.InstructionSet.{InstructionSet}
-use Rattle.asm_target.specs.SequenceLaws.{StandsApart}
-use Rattle.asm_target.specs.Sequences.{count_of, span_of, depth_added_by, is_of_frame, is_plain, is_saving}
-use Rattle.asm_target.specs.Standing.{HasCode, KeepsRules, Leads, StandsAt}
-use Rattle.asm_target.proofs.CleanLemmas.{Falls, falling, none_below, unbroken}
-use Rattle.asm_target.proofs.PlaceLemmas.{apart_positions, instr_here, item_at}
-use Rattle.asm_target.proofs.RoleLemmas.{AreApart, added_before, added_last, counts, linked_out, stands_in}
+use Rattle.asm_target.specs.Standing.{KeepsRules}
+use Rattle.asm_target.proofs.CleanLemmas.{falling, unbroken}
+use Rattle.asm_target.proofs.PlaceLemmas.{instr_here}
 
 pub same_pos : (m n : ℕ) → pos m ≡ pos n → m ≡ n
 same_pos m n same = cc
@@ -38,7 +32,7 @@ unlinked_out f p link falls = rw (link, falls) refl
 unlinked_f2 : (f : FlowFunction) (p : ℕ) → f.link ≡ None → is_other (f.flow p).sp ≡ false → breaks_f2 f p ≡ false
 unlinked_f2 f p link kept = rw link kept
 
-unlinked_f8 : (f : FlowFunction) (p : ℕ) → f.link ≡ None → breaks_f8 f p ≡ false
+pub unlinked_f8 : (f : FlowFunction) (p : ℕ) → f.link ≡ None → breaks_f8 f p ≡ false
 unlinked_f8 f p link = rw link refl
 
 module _ {Instr : Type 0} (set : InstructionSet Instr) (fits : Instr → Type 0) (begins : List Instr → Sequence) (shape : Shape) where
@@ -78,10 +72,10 @@ module _ {Instr : Type 0} (set : InstructionSet Instr) (fits : Instr → Type 0)
       record {
         step = elim [
           | zero ↦ (λ less. record {
-              instr = i;
-              here = refl;
-              step = subst (λ (d : ℕ). IsStep i d (depth 1)) (sym start) (subst (λ (d : ℕ). IsStep i before d) (sym first) walks.1);
-            })
+            instr = i;
+            here = refl;
+            step = subst (λ (d : ℕ). IsStep i d (depth 1)) (sym start) (subst (λ (d : ℕ). IsStep i before d) (sym first) walks.1);
+          })
           | suc k ↦ (λ less.
               let s = rest.step k (omega arith) in
               record { instr = s.instr; here = s.here; step = s.step })

@@ -7,3 +7,8 @@ pub mod RoleLemmas
 pub mod PlaceLemmas
 pub mod FrameLemmas
 pub mod SequenceLemmas
+pub mod GuardLemmas
+pub mod LevelLemmas
+pub mod BlockLemmas
+pub mod CheckLemmas
+pub mod CheckLaws

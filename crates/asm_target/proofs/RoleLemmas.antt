@@ -1,17 +1,17 @@
 -- Which sequence an instruction stands in, and by how much it changes the depth, where sequences lie apart.
-use Rattle.std.proofs.Common.{◌≡◌, ℕ, zero, suc, ◌+◌, ◌-◌, ◌<◌, ◌≤◌, ◌==◌, ◌&&◌, ◌⊎◌, inl, inr, Bool, true, false, not, ℤ, pos, refl, sym, ap, ◌∙◌, subst, arith, if◌then◌else◌, is_some}
+use Rattle.std.proofs.Common.{◌≡◌, ℕ, zero, suc, ◌+◌, ◌-◌, ◌<◌, ◌≤◌, ◌&&◌, ◌⊎◌, inl, inr, true, false, not, ℤ, pos, refl, sym, ap, ◌∙◌, subst, arith, if◌then◌else◌, is_some}
 use Rattle.std.proofs.lemmas.Bool.{cases_order}
 use Rattle.std.proofs.lemmas.Bool.Decides.{nat_tests}
-use Rattle.std.specs.Prelude.{◌+ℤ◌, nat_le, nat_lt}
+use Rattle.std.specs.Prelude.{◌+ℤ◌, nat_lt}
 use Rattle.asm_target.specs.declared.sequence.Sequence.{Sequence}
 use Rattle.asm_target.specs.declared.sequence.Sequence.TheVariants.{Plain, Saving, Restoring, Growth}
-use Rattle.asm_target.specs.DepthChange.{DepthView, added_within, depth_change, ends_sequence, is_at_depth, is_hit, longest}
+use Rattle.asm_target.specs.DepthChange.{added_within, depth_change, ends_sequence, is_at_depth, is_hit, longest}
 use Rattle.asm_target.specs.FlowFunction.{FlowFunction, depth_view, is_in_order, is_target, outgoing, role_at, sequence_at, span_at, start_at, start_of}
 use Rattle.asm_target.specs.Sequences.{count_of, span_of, depth_added_by, is_of_frame, is_plain}
 use Rattle.asm_target.specs.Standing.{IsUnhit}
 use Rattle.asm_target.proofs.CleanLemmas.{none_below}
 
-span_most : (found : Sequence) → span_of found ≤ count_of found
+pub span_most : (found : Sequence) → span_of found ≤ count_of found
 span_most Plain = omega arith
 span_most (Saving count total) = omega arith
 span_most (Restoring count total) = omega arith
@@ -111,7 +111,7 @@ module _ (f : FlowFunction) where
       let same : s + (k - s) ≡ k = omega arith in
       subst (λ (p : ℕ). f.found p ≡ Plain) same (is.apart s (k - s) (omega arith) (omega arith))
 
-  not_inside : AreApart → (s k : ℕ) → is_plain (f.found k) ≡ false → s < k → s + count_of (f.found s) ≤ k
+  pub not_inside : AreApart → (s k : ℕ) → is_plain (f.found k) ≡ false → s < k → s + count_of (f.found s) ≤ k
   not_inside is s k begins less =
       elim (cases_order (s + count_of (f.found s)) k) as (λ _. s + count_of (f.found s) ≤ k) [
         | inl same ↦ omega arith
@@ -198,8 +198,10 @@ module _ (f : FlowFunction) where
       → (if b then depth_added_by (f.found (p - n)) else added_within (depth_view f) p n) ≡ pos 0) [
         | true ↦ (λ told.
             let e = ends p n told in
-            absurd (cc (quiet (p - n) (omega (arith, e.within)) (omega (arith, e.within, e.count)),
-            frame_at_depth (f.found (p - n)) (f.depth (p - n)) e.at_depth)))
+            absurd (cc (
+              quiet (p - n) (omega (arith, e.within)) (omega (arith, e.within, e.count)),
+              frame_at_depth (f.found (p - n)) (f.depth (p - n)) e.at_depth,
+            )))
         | false ↦ (λ told. added_quiet p n quiet)
       ] refl
 

@@ -1,24 +1,22 @@
 -- A sequence that makes or leaves a frame, by the flow rules.
-use Rattle.std.proofs.Common.{◌≡◌, ℕ, zero, suc, List, ◌++◌, ◌+◌, ◌<◌, ◌≤◌, ◌==◌, ◌&&◌, ◌⊎◌, Bool, true, false, Some, ℤ, pos, length, drop, refl, sym, ap, ◌∙◌, subst, arith, inl, inr, is_some}
+use Rattle.std.proofs.Common.{◌≡◌, ℕ, zero, suc, List, ◌++◌, ◌+◌, ◌<◌, ◌≤◌, ◌==◌, ◌⊎◌, Bool, true, false, Some, pos, length, drop, refl, sym, ap, ◌∙◌, subst, arith, inl, inr, is_some}
 use Rattle.std.proofs.lemmas.Bool.{cases_order}
 use Rattle.std.proofs.lemmas.Bool.Decides.{nat_tests}
 use Rattle.std.proofs.lemmas.Int.{ints}
-use Rattle.std.proofs.lemmas.List.{drop-drop}
-use Rattle.std.proofs.lemmas.Option.{slice_get_within}
 use Rattle.std.specs.List.{slice_get}
-use Rattle.std.specs.Prelude.{◌+ℤ◌, not, nat_le, ◌-◌}
+use Rattle.std.specs.Prelude.{◌+ℤ◌, nat_le, ◌-◌}
 use Rattle.machine_effect.specs.declared.flow.Shape.{Shape}
 use Rattle.machine_effect.specs.declared.next.Next.TheVariants as next
 use Rattle.machine_effect.specs.Flow.{flow_of}
 use Rattle.asm_target.specs.declared.sequence.Sequence.{Sequence}
 use Rattle.asm_target.specs.declared.sequence.Sequence.TheVariants.{Plain, Saving, Restoring, Growth}
-use Rattle.asm_target.specs.DepthChange.{added_within, ends_sequence, is_at_depth, is_hit, longest}
-use Rattle.asm_target.specs.FlowFunction.{FlowFunction, depth_view, is_in_order, is_target, next_at, outgoing, role_at, sequence_at, span_at, start_at}
-use Rattle.asm_target.specs.FlowRules.{breaks, breaks_f2, breaks_f8, greatest_depth, is_growth_call}
+use Rattle.asm_target.specs.DepthChange.{ends_sequence, is_at_depth, is_hit, longest}
+use Rattle.asm_target.specs.FlowFunction.{FlowFunction, depth_view, is_in_order, is_target, outgoing, role_at, sequence_at, span_at, start_at}
+use Rattle.asm_target.specs.FlowRules.{breaks, breaks_f2, breaks_f8, greatest_depth}
 use Rattle.asm_target.specs.InstructionSet.{InstructionSet}
 use Rattle.asm_target.specs.SequenceLaws.{StandsApart}
-use Rattle.asm_target.specs.Sequences.{count_of, span_of, depth_added_by, is_of_frame, is_plain, is_saving}
-use Rattle.asm_target.specs.Standing.{HasCode, IsUnhit, KeepsRules, Leads, StandsAt}
+use Rattle.asm_target.specs.Sequences.{count_of, span_of, depth_added_by, is_of_frame, is_plain}
+use Rattle.asm_target.specs.Standing.{KeepsRules, StandsAt}
 use Rattle.asm_target.proofs.CleanLemmas.{and_off, falling, none_below, unbroken}
 use Rattle.asm_target.proofs.FrameLemmas.{flow_next, same_pos}
 use Rattle.asm_target.proofs.PlaceLemmas.{apart_positions, instr_here, item_at}
