@@ -3,8 +3,13 @@
 //! Software Developer's Manual, volume 2.
 #![tactic(auto)]
 
+mod aiming;
 mod amd64;
+mod frames;
+mod guard;
 mod listed;
+mod operands;
+mod selecting;
 
 pub use amd64::Amd64;
 pub use listed::Listed;

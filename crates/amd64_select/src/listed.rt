@@ -61,6 +61,17 @@ impl Listed {
         }
     }
 
+    /// An instruction that was chosen; `None` where none was.
+    pub fn chosen(found: Option<Instr>) -> Option<Listed>
+        requires { IfSome found (λ instr. Fits instr) }
+        ensures { result ≡ found }
+    {
+        match found {
+            Some(instr) => Some(Listed::known(instr)),
+            None => None,
+        }
+    }
+
     /// The instruction itself.
     pub fn instr(&self) -> &Instr
         ensures same { result.now ≡ self.now }

@@ -1,0 +1,146 @@
+-- The laws of forms and aims, for amd64.
+use Rattle.std.specs.Prelude.{◌↔◌, is_some, option_map, All}
+use Rattle.std.specs.List.{flat_map}
+use Rattle.std.proofs.Common.{◌≡◌, ℕ, zero, suc, ℤ, pos, negsuc, ◌+ℤ◌, ◌-ℤ◌, ◌≤ℤ◌, ◌+◌, ◌-◌, ◌*◌, ◌%◌, ◌^◌, ◌<◌, ◌≤◌, Bool, true, false, IsTrue, List, [], ◌∷◌, ◌++◌, length, Option, Some, None, refl, sym, ◌∙◌, ap, subst, arith, rules, inl, inr}
+use Rattle.std.proofs.lemmas.Int.{ints}
+use Rattle.std.proofs.lemmas.List.{length-append}
+use Rattle.machine_effect.specs.declared.next.Next.{Next}
+use Rattle.machine_effect.specs.declared.next.Next.TheVariants as next
+use Rattle.machine_effect.specs.Flow.{flow_of}
+use Rattle.machine_effect.specs.Numbers.{fits as fits_bits, moved_by, unsigned}
+use Rattle.machine_effect.specs.Shapes.{amd64_shape}
+use Rattle.asm_target.specs.declared.refer.Part.{Part}
+use Rattle.asm_target.specs.declared.refer.Part.TheVariants.{Whole, High, Low}
+use Rattle.asm_target.specs.Aiming as aim
+use Rattle.asm_target.specs.FlowFunction.{jump_goal, call_goal}
+use Rattle.amd64_table.specs.declared.condition.Cc.{Cc}
+use Rattle.amd64_table.specs.declared.memory.Mem.TheVariants as memory
+use Rattle.amd64_table.specs.declared.memory.Rm.TheVariants as rms
+use Rattle.amd64_table.specs.declared.op.Near.{Near}
+use Rattle.amd64_table.specs.declared.op.Near.TheVariants as near
+use Rattle.amd64_table.specs.declared.op.Indirect.TheVariants as indirect
+use Rattle.amd64_table.specs.declared.op.Plain.TheVariants as plain
+use Rattle.amd64_table.specs.declared.instr.Instr.{Instr}
+use Rattle.amd64_table.specs.declared.instr.Instr.TheVariants as instr
+use Rattle.amd64_table.specs.Fits.{fits}
+use Rattle.amd64_table.specs.Flows.{move_of, next_of}
+use Rattle.amd64_table.specs.Operands.{rm_atom}
+use Rattle.amd64_table.proofs.MoveLemmas.{flow_moves}
+use Rattle.amd64_table.proofs.NextLemmas.{nexts}
+use Rattle.amd64_code.specs.Constants.{long_of, byte_of}
+use Rattle.amd64_code.specs.Heads.{head_bytes, rex_bytes}
+use Rattle.amd64_code.specs.InstructionSet.{amd64, Fits, end_of}
+use Rattle.amd64_code.specs.ModRm.{mem_bytes, rm_bytes}
+use Rattle.amd64_code.specs.Spelling.{spelling_of, rm_x, rm_b, store_low_head, extend_head}
+use Rattle.amd64_code.proofs.LengthLaws.{bounded}
+use Rattle.amd64_forms.specs.Aiming.{forms_of, distance_of, distance_bits, aimed_by, place_in}
+use Rattle.amd64_forms.proofs.AimingLemmas.{aimed_twice, distance_aimed, aimed_same, bits_aimed, distance_fits, fits_aimed}
+use Rattle.amd64_select.specs.Aims.{aiming, held}
+
+-- lists with fronts of one length, or with tails
+tails : (front one other : List ℕ) → length one ≡ length other → length (front ++ one) ≡ length (front ++ other)
+tails front one other same = length-append front one ∙ ap (λ (n : ℕ). length front + n) same ∙ sym (length-append front other)
+
+fronts : (one other tail : List ℕ) → length one ≡ length other → length (one ++ tail) ≡ length (other ++ tail)
+fronts one other tail same =
+    length-append one tail ∙ ap (λ (n : ℕ). n + length tail) same ∙ sym (length-append other tail)
+
+-- a spelling has as many bytes with another distance
+pub same_length : (d : ℤ) (i : Instr) → length (spelling_of (aimed_by d i)) ≡ length (spelling_of i)
+unfolding spelling_of aimed_by rm_bytes mem_bytes rm_x rm_b store_low_head extend_head
+same_length d (instr.Short code e) = tails _ (byte_of d) (byte_of e) refl
+same_length d (instr.Near op e) = tails _ (long_of d) (long_of e) refl
+same_length d (instr.RegRm op width reg (rms.Mem (memory.Symbol e))) = tails _ (_ ∷ long_of d) (_ ∷ long_of e) refl
+same_length d (instr.ArithmeticReg op lock width from (rms.Mem (memory.Symbol e))) = tails _ (_ ∷ long_of d) (_ ∷ long_of e) refl
+same_length d (instr.MemReg op width (memory.Symbol e) reg) = tails _ (_ ∷ long_of d) (_ ∷ long_of e) refl
+same_length d (instr.ArithmeticConst op lock width constant (rms.Mem (memory.Symbol e))) =
+    fronts _ _ _ (tails _ (_ ∷ long_of d) (_ ∷ long_of e) refl)
+same_length d (instr.CompareConst width (rms.Mem (memory.Symbol e)) constant) =
+    fronts _ _ _ (tails _ (_ ∷ long_of d) (_ ∷ long_of e) refl)
+same_length d (instr.StoreLow size from (memory.Symbol e)) = tails _ (_ ∷ long_of d) (_ ∷ long_of e) refl
+same_length d (instr.Extend op (rms.Mem (memory.Symbol e)) to) = tails _ (_ ∷ long_of d) (_ ∷ long_of e) refl
+same_length d (instr.StoreConst width constant (memory.Symbol e)) =
+    fronts _ _ _ (tails _ (_ ∷ long_of d) (_ ∷ long_of e) refl)
+same_length d (instr.StoreByte constant (memory.Symbol e)) = fronts _ _ _ (tails _ (_ ∷ long_of d) (_ ∷ long_of e) refl)
+same_length d (instr.Lea (memory.Symbol e) to) = tails _ (_ ∷ long_of d) (_ ∷ long_of e) refl
+same_length d (instr.Unary op lock width (rms.Mem (memory.Symbol e))) = tails _ (_ ∷ long_of d) (_ ∷ long_of e) refl
+same_length d (instr.MulDiv op width (rms.Mem (memory.Symbol e))) = tails _ (_ ∷ long_of d) (_ ∷ long_of e) refl
+same_length d (instr.RmReg op width (rms.Mem (memory.Symbol e)) to) = tails _ (_ ∷ long_of d) (_ ∷ long_of e) refl
+same_length d (instr.ShiftConst op width count (rms.Mem (memory.Symbol e))) =
+    fronts _ _ _ (tails _ (_ ∷ long_of d) (_ ∷ long_of e) refl)
+same_length d (instr.ShiftCx op width (rms.Mem (memory.Symbol e))) = tails _ (_ ∷ long_of d) (_ ∷ long_of e) refl
+same_length d (instr.Exchange width reg (memory.Symbol e)) = tails _ (_ ∷ long_of d) (_ ∷ long_of e) refl
+same_length d (instr.Atomic op lock width reg (memory.Symbol e)) = tails _ (_ ∷ long_of d) (_ ∷ long_of e) refl
+same_length d (instr.SetCc code (rms.Mem (memory.Symbol e))) = tails _ (_ ∷ long_of d) (_ ∷ long_of e) refl
+same_length d (instr.MoveCc code width (rms.Mem (memory.Symbol e)) to) = tails _ (_ ∷ long_of d) (_ ∷ long_of e) refl
+same_length d (instr.Indirect op (rms.Mem (memory.Symbol e))) = tails _ (_ ∷ long_of d) (_ ∷ long_of e) refl
+same_length d (instr.LoadWide (memory.Symbol e) to) = tails _ (_ ∷ long_of d) (_ ∷ long_of e) refl
+same_length d (instr.StoreWide from (memory.Symbol e)) = tails _ (_ ∷ long_of d) (_ ∷ long_of e) refl
+same_length d _ = refl
+
+pub same_end : (d : ℤ) (i : Instr) (pc : ℕ) → end_of (aimed_by d i) pc ≡ end_of i pc
+same_end d i pc = ap (λ (n : ℕ). (pc + n) % 2 ^ 64) (same_length d i)
+
+-- instructions that differ in their distance alone
+pub same_lengths : aim.KeepLengths amd64 Fits aiming
+same_lengths i j fi fj same =
+    sym (same_length (pos 0) i) ∙ ap (λ (k : Instr). length (spelling_of k)) same ∙ same_length (pos 0) j
+
+-- an instruction that is another but for its distance is that one with its own distance
+pub is_aimed : (i j : Instr) (d : ℤ) → distance_of j ≡ Some d → aimed_by (pos 0) j ≡ aimed_by (pos 0) i → j ≡ aimed_by d i
+is_aimed i j d has same =
+    sym (aimed_same d j has) ∙ sym (aimed_twice d (pos 0) j) ∙ ap (aimed_by d) same ∙ aimed_twice d (pos 0) i
+
+-- The law of aims. An instruction that has a distance is aimed by one that fits and leads to the goal
+
+pub record Leads (i : Instr) (place goal : ℕ) (d : ℤ) : Type 0 where
+  pub fit : IsTrue (fits_bits (distance_bits i) d)
+  pub to : moved_by (end_of i place) d ≡ goal
+
+pub aims_by : (i : Instr) (place goal : ℕ) (d : ℤ) → Fits i → is_some (distance_of i) ≡ true → Leads i place goal d
+    → aim.Aims amd64 Fits aiming i Whole place goal (aimed_by d i)
+aims_by i place goal d fit has leads = record {
+  fit = fits_aimed d i fit leads.fit;
+  same = aimed_twice (pos 0) d i;
+  aimed = has_goal (distance_of i) has (distance_aimed d i);
+}
+  where
+    has_goal : (old : Option ℤ) → is_some old ≡ true → distance_of (aimed_by d i) ≡ option_map (λ _. d) old
+        → option_map (moved_by (end_of (aimed_by d i) place)) (distance_of (aimed_by d i)) ≡ Some goal
+    has_goal None some new = absurd (cc)
+    has_goal (Some e) some new =
+        ap (option_map (moved_by (end_of (aimed_by d i) place))) new
+        ∙ ap (λ (end : ℕ). Some (moved_by end d)) (same_end d i place) ∙ ap (λ (n : ℕ). Some n) leads.to
+
+pub record AimedBy (i j : Instr) (place goal : ℕ) : Type 0 where
+  pub distance : ℤ
+  pub has : is_some (distance_of i) ≡ true
+  pub leads : Leads i place goal distance
+  pub is : j ≡ aimed_by distance i
+  pub end : end_of j place ≡ end_of i place
+
+some_of : {A : Type 0} {B : Type 0} (f : A → B) (x : Option A) (y : B) → option_map f x ≡ Some y → (a : A) × (x ≡ Some a) × (f a ≡ y)
+some_of f None y is = absurd (cc)
+some_of f (Some a) y is = (a, refl, cc)
+
+pub aimed_so : (i j : Instr) (place goal : ℕ) → aim.Aims amd64 Fits aiming i Whole place goal j → AimedBy i j place goal
+aimed_so i j place goal aims =
+    let found = some_of (moved_by (end_of j place)) (distance_of j) goal aims.aimed in
+    let d = found.0 in
+    let is : j ≡ aimed_by d i = is_aimed i j d found.1 aims.same in
+    let bits : distance_bits j ≡ distance_bits i = ap distance_bits is ∙ bits_aimed d i in
+    let end : end_of j place ≡ end_of i place = ap (λ (k : Instr). end_of k place) is ∙ same_end d i place in
+    record {
+      distance = d;
+      has = some_from (distance_of i) (sym (distance_aimed d i) ∙ ap distance_of (sym is) ∙ found.1);
+      leads = record {
+        fit = subst (λ (n : ℕ). IsTrue (fits_bits n d)) bits (distance_fits d j aims.fit found.1);
+        to = ap (λ (end : ℕ). moved_by end d) (sym end) ∙ found.2;
+      };
+      is = is;
+      end = end;
+    }
+  where
+    some_from : {e : ℤ} (old : Option ℤ) → option_map (λ (_ : ℤ). e) old ≡ Some e → is_some old ≡ true
+    some_from None is = absurd (cc)
+    some_from (Some x) is = refl

@@ -1,0 +1,178 @@
+-- The laws of selection, for amd64.
+use Rattle.std.specs.Prelude.{◌⊎◌, All, map, is_some, if◌then◌else◌}
+use Rattle.std.specs.List.{flat_map}
+use Rattle.std.proofs.Common.{◌≡◌, ℕ, zero, suc, ℤ, pos, ◌+ℤ◌, ◌+◌, ◌*◌, ◌<◌, ◌≤◌, Bool, true, false, IsTrue, List, [], ◌∷◌, ◌++◌, length, Option, Some, None, refl, sym, ◌∙◌, ap, subst, arith, rules, inl, inr}
+use Rattle.std.proofs.lemmas.List.{length-append}
+use Rattle.goasm_base.specs.declared.statement.Operand.{Operand}
+use Rattle.goasm_base.specs.declared.statement.Operand.TheVariants as written
+use Rattle.goasm_base.specs.declared.statement.Stmt.{Stmt}
+use Rattle.asm_target.specs.declared.frame.FrameShape.{FrameShape}
+use Rattle.asm_target.specs.declared.frame.Site.{Site}
+use Rattle.asm_target.specs.declared.refer.Part.TheVariants.{Whole}
+use Rattle.asm_target.specs.declared.refer.Picked.{Picked}
+use Rattle.asm_target.specs.declared.refer.Refer.{Refer}
+use Rattle.asm_target.specs.declared.refer.To.{To}
+use Rattle.asm_target.specs.Aiming as aim
+use Rattle.asm_target.specs.Frames.{IsFrame}
+use Rattle.amd64_table.specs.declared.reg.Reg.{Reg}
+use Rattle.amd64_table.specs.declared.xmm.Xmm.{Xmm}
+use Rattle.amd64_table.specs.declared.memory.Scale.{Scale}
+use Rattle.amd64_table.specs.declared.mnemonic.Mnemonic.{Mnemonic}
+use Rattle.amd64_table.specs.declared.mnemonic.Mnemonic.TheVariants as name
+use Rattle.amd64_table.specs.declared.operand.Operand.{Operand as Shown}
+use Rattle.amd64_table.specs.declared.operand.Operand.TheVariants as operand
+use Rattle.amd64_table.specs.declared.op.Plain.TheVariants as plain
+use Rattle.amd64_table.specs.declared.instr.Instr.{Instr}
+use Rattle.amd64_table.specs.declared.instr.Instr.TheVariants as instr
+use Rattle.amd64_table.specs.Operands.{factor_of}
+use Rattle.amd64_table.specs.Registers.{reg_text, xmm_text}
+use Rattle.amd64_code.specs.InstructionSet.{amd64, Fits}
+use Rattle.amd64_code.specs.Spelling.{spelling_of}
+use Rattle.amd64_code.proofs.LengthLaws.{bounded}
+use Rattle.amd64_forms.specs.declared.rows.Spoken.{Spoken}
+use Rattle.amd64_forms.specs.declared.rows.Spoken.TheVariants as spoken
+use Rattle.amd64_forms.specs.declared.rows.Resolved.{Resolved}
+use Rattle.amd64_forms.specs.declared.rows.Resolved.TheVariants.{Plain, Address}
+use Rattle.amd64_forms.specs.Aiming.{forms_of, long_of, distance_of}
+use Rattle.amd64_forms.specs.Listed.{Writes}
+use Rattle.amd64_forms.specs.Rows.{Becomes as BecomesOne, meaning_of}
+use Rattle.amd64_forms.specs.Words.{Says}
+use Rattle.amd64_forms.proofs.Apart.{regs_apart, xmms_apart, reg_no_xmm, reg_no_tls, aliases_apart}
+use Rattle.amd64_forms.proofs.NamesApart.{mnemonics_apart, mnemonic_no_alias}
+use Rattle.amd64_forms.proofs.Told.{becomes_one}
+use Rattle.amd64_forms.proofs.Held.{becomes_listed, becomes_directed, holds_address}
+use Rattle.amd64_select.specs.Aims.{aiming}
+use Rattle.amd64_select.specs.FrameLaws.{fits_exit, few_left}
+use Rattle.amd64_select.specs.Frames.{exit_of}
+use Rattle.amd64_select.specs.Operands.{Resolves, IsPlaced, IsRegister, IsBased, IsIndexed, place, refer_of, symbol, goes_to_symbols}
+use Rattle.amd64_select.specs.Selecting.{Becomes, BecomesBy, Knows, Picks, ResolveAll, alone, before, code_of, first_refer, refers, selection}
+
+-- a name says one thing
+pub says_one : (text : List ℕ) (s t : Spoken) → Says text s → Says text t → s ≡ t
+says_one text s t (inl one) (inl other) =
+    one.2 ∙ ap spoken.Listed (mnemonics_apart one.0 other.0 (one.1 ∙ sym other.1)) ∙ sym other.2
+says_one text s t (inl one) (inr other) = absurd (mnemonic_no_alias one.0 other.0 (one.1 ∙ sym other.1))
+says_one text s t (inr one) (inl other) = absurd (mnemonic_no_alias other.0 one.0 (other.1 ∙ sym one.1))
+says_one text s t (inr one) (inr other) =
+    one.2 ∙ ap meaning_of (aliases_apart one.0 other.0 (one.1 ∙ sym other.1)) ∙ sym other.2
+
+scales_apart : (one other : Scale) → factor_of one ≡ factor_of other → one ≡ other
+unfolding factor_of
+scales_apart = search rules
+
+placed_one : (address : Bool) (reg other : Reg) (disp : ℤ) (x y : Resolved) → reg ≡ other → IsPlaced address reg disp x
+    → IsPlaced address other disp y → x ≡ y
+placed_one address reg other disp x y same one two = cc
+
+register_one : (text : List ℕ) (x y : Resolved) → IsRegister text x → IsRegister text y → x ≡ y
+register_one text x y (inl one) (inl two) =
+    one.2 ∙ ap (λ (reg : Reg). Plain (operand.Reg reg)) (regs_apart one.0 two.0 (one.1 ∙ sym two.1)) ∙ sym two.2
+register_one text x y (inl one) (inr two) = absurd (reg_no_xmm one.0 two.0 (one.1 ∙ sym two.1))
+register_one text x y (inr one) (inl two) = absurd (reg_no_xmm two.0 one.0 (two.1 ∙ sym one.1))
+register_one text x y (inr one) (inr two) =
+    one.2 ∙ ap (λ (xmm : Xmm). Plain (operand.Wide xmm)) (xmms_apart one.0 two.0 (one.1 ∙ sym two.1)) ∙ sym two.2
+
+based_one : (off : ℤ) (base : List ℕ) (x y : Resolved) → IsBased off base x → IsBased off base y → x ≡ y
+based_one off base x y (inl one) (inl two) =
+    placed_one false one.0 two.0 off x y (regs_apart one.0 two.0 (one.1 ∙ sym two.1)) one.2 two.2
+based_one off base x y (inl one) (inr two) = absurd (reg_no_tls one.0 (one.1 ∙ two.0))
+based_one off base x y (inr one) (inl two) = absurd (reg_no_tls two.0 (two.1 ∙ one.0))
+based_one off base x y (inr one) (inr two) = one.2 ∙ sym two.2
+
+indexed_one : (off : ℤ) (base index : List ℕ) (factor : ℕ) (x y : Resolved) → IsIndexed off base index factor x
+    → IsIndexed off base index factor y → x ≡ y
+indexed_one off base index factor x y one two =
+    let regs = regs_apart one.reg two.reg (one.base_named ∙ sym two.base_named) in
+    let indices = regs_apart one.second two.second (one.index_named ∙ sym two.index_named) in
+    let scales = scales_apart one.scale two.scale (one.scaled ∙ sym two.scaled) in
+    cc (one.is, two.is, regs, indices, scales)
+
+-- an operand is one thing
+pub resolves_one : (s : Spoken) (site : Site) (op : Operand) (x y : Resolved) → Resolves s site op x → Resolves s site op y
+    → x ≡ y
+unfolding Resolves
+resolves_one s site (written.Imm value) x y one two = one ∙ sym two
+resolves_one s site (written.Word text) x y one two = register_one text x y one two
+resolves_one s site (written.Mem off base None) x y one two = based_one off base x y one two
+resolves_one s site (written.Mem off base (Some index)) x y one two = indexed_one off base index.0 index.1 x y one two
+resolves_one s site (written.Sym sym' off address) x y one two = one ∙ sym two
+resolves_one s site (written.Arg text off address) x y one two = placed_one address _ _ _ x y refl one two
+resolves_one s site (written.Auto off address) x y one two = placed_one address _ _ _ x y refl one two
+resolves_one s site (written.Label statement) x y one two = one ∙ sym two
+resolves_one s site (written.Pair first second) x y one two = absurd one
+resolves_one s site (written.Shifted reg kind amount) x y one two = absurd one
+
+pub record AreSame (a b c d : Option Resolved) : Type 0 where
+  pub first : a ≡ c
+  pub second : b ≡ d
+
+pub all_one : (s : Spoken) (site : Site) (ops : List Operand) (a b c d : Option Resolved) → ResolveAll s site ops a b
+    → ResolveAll s site ops c d → AreSame a b c d
+all_one s site [] a b c d one two = record { first = one.0 ∙ sym two.0; second = one.1 ∙ sym two.1 }
+all_one s site (op ∷ []) a b c d one two = record {
+  first = one.2 ∙ ap (λ (x : Resolved). Some x) (resolves_one s site op one.0 two.0 one.1 two.1) ∙ sym two.2;
+  second = one.3 ∙ sym two.3;
+}
+all_one s site (op ∷ other ∷ []) a b c d one two = record {
+  first = one.4 ∙ ap (λ (x : Resolved). Some x) (resolves_one s site op one.0 two.0 one.2 two.2) ∙ sym two.4;
+  second = one.5 ∙ ap (λ (x : Resolved). Some x) (resolves_one s site other one.1 two.1 one.3 two.3) ∙ sym two.5;
+}
+all_one s site (op ∷ other ∷ third ∷ more) a b c d one two = absurd one
+
+pub picks_one : (s : Spoken) (lock : Bool) (site : Site) (ops : List Operand) (i j : Instr) → Picks s lock site ops i
+    → Picks s lock site ops j → i ≡ j
+picks_one s lock site ops i j one two =
+    let same = all_one s site ops one.first one.second two.first two.second one.resolved two.resolved in
+    let moved = subst (λ (b : Option Resolved). BecomesOne s lock two.first b i) same.second
+    (subst (λ (a : Option Resolved). BecomesOne s lock a one.second i) same.first one.becomes) in
+    becomes_one s lock two.first two.second i j moved two.becomes
+
+by_one : (s : Spoken) (stmt : Stmt) (site : Site) (code other : List (Picked Instr)) → BecomesBy s stmt site code
+    → BecomesBy s stmt site other → code ≡ other
+by_one spoken.Nothing stmt site code other one two = one.1 ∙ sym two.1
+by_one (spoken.Listed m) stmt site code other one two =
+    one.2 ∙ ap (λ (i : Instr). code_of i (refers stmt.operands) site.frame) (picks_one _ stmt.lock site stmt.operands one.0 two.0 one.1 two.1) ∙ sym two.2
+by_one spoken.Widen stmt site code other one two =
+    one.2 ∙ ap (λ (i : Instr). code_of i (refers stmt.operands) site.frame) (picks_one _ stmt.lock site stmt.operands one.0 two.0 one.1 two.1) ∙ sym two.2
+by_one (spoken.ToLabel cc') stmt site code other one two =
+    one.2 ∙ ap (λ (i : Instr). code_of i (refers stmt.operands) site.frame) (picks_one _ stmt.lock site stmt.operands one.0 two.0 one.1 two.1) ∙ sym two.2
+by_one (spoken.Direct near) stmt site code other one two =
+    one.2 ∙ ap (λ (i : Instr). code_of i (refers stmt.operands) site.frame) (picks_one _ stmt.lock site stmt.operands one.0 two.0 one.1 two.1) ∙ sym two.2
+by_one spoken.Adjust stmt site code other one two =
+    one.2 ∙ ap (λ (i : Instr). code_of i (refers stmt.operands) site.frame) (picks_one _ stmt.lock site stmt.operands one.0 two.0 one.1 two.1) ∙ sym two.2
+
+pub single : (stmt : Stmt) (site : Site) (code other : List (Picked Instr)) → Becomes stmt site code → Becomes stmt site other
+    → code ≡ other
+single stmt site code other one two =
+    let same = says_one stmt.op one.spoken two.spoken one.says two.says in
+    by_one two.spoken stmt site code other (subst (λ (s : Spoken). BecomesBy s stmt site code) same one.by) two.by
+
+pub known : (stmt : Stmt) (site : Site) (code : List (Picked Instr)) → Becomes stmt site code → Knows stmt.op stmt.suffix
+known stmt site code becomes = (becomes.plain, (becomes.spoken, becomes.says))
+
+-- What is picked: nothing, or an instruction behind those that leave the frame
+
+pub data Kind (stmt : Stmt) (site : Site) (code : List (Picked Instr)) : Type 0 where
+  none : code ≡ [] → Kind stmt site code
+  some : (s : Spoken) (i : Instr) → Picks s stmt.lock site stmt.operands i → code ≡ code_of i (refers stmt.operands) site.frame → Kind stmt site code
+
+kind_by : (s : Spoken) (stmt : Stmt) (site : Site) (code : List (Picked Instr)) → BecomesBy s stmt site code → Kind stmt site code
+kind_by spoken.Nothing stmt site code by = none by.1
+kind_by (spoken.Listed m) stmt site code by = some _ by.0 by.1 by.2
+kind_by spoken.Widen stmt site code by = some _ by.0 by.1 by.2
+kind_by (spoken.ToLabel cc') stmt site code by = some _ by.0 by.1 by.2
+kind_by (spoken.Direct near) stmt site code by = some _ by.0 by.1 by.2
+kind_by spoken.Adjust stmt site code by = some _ by.0 by.1 by.2
+
+-- an operand that refers to something holds its address
+refers_held : (s : Spoken) (site : Site) (op : Operand) (x : Resolved) (refer : Refer) → Resolves s site op x
+    → refer_of op ≡ Some refer → holds_address (Some x) ≡ true
+unfolding Resolves
+refers_held s site (written.Sym sym' off true) x refer resolved is = ap (λ (x : Resolved). holds_address (Some x)) resolved
+refers_held s site (written.Sym sym' off false) x refer resolved is = ap (λ (x : Resolved). holds_address (Some x)) resolved ∙ by (goes_to_symbols s)
+  where
+    by : (goes : Bool) → holds_address (Some (if goes then Plain (operand.Goal (pos 0)) else symbol spoken.Widen false)) ≡ true
+    by true = refl
+    by false = refl
+refers_held s site (written.Label statement) x refer resolved is = ap (λ (x : Resolved). holds_address (Some x)) resolved
+refers_held s site _ x refer resolved is = absurd (cc)
