@@ -1,7 +1,7 @@
 -- The order of `DATA` statements, by the offsets that are kept for each symbol and by facts about the statements.
-use Rattle.std.proofs.Common.{◌≡◌, ℕ, suc, ◌+◌, ◌<◌, ◌≤◌, Bool, true, false, cond, ◌||◌, not, nat_lt, nat_eq, List, [], ◌∷◌, ◌++◌, length, Option, Some, None, refl, sym, ap, ◌∙◌, subst, arith, inl, inr}
+use Rattle.std.proofs.Common.{◌≡◌, ℕ, ◌+◌, ◌<◌, ◌≤◌, Bool, true, false, cond, ◌||◌, not, nat_lt, nat_eq, List, [], ◌∷◌, ◌++◌, length, Option, Some, None, refl, sym, ap, ◌∙◌, subst, arith, inl, inr}
 use Rattle.std.specs.Prelude.{◌&&◌, nat_le, bytes_eq}
-use Rattle.std.specs.List.{list_any, filter_map, position_or_len}
+use Rattle.std.specs.List.{list_any, filter_map}
 use Rattle.std.specs.Map.{lookup}
 use Rattle.std.proofs.Math.Bool.{beq, or-false}
 use Rattle.std.proofs.lemmas.Bool.{cases_lt}
@@ -103,12 +103,14 @@ found_inserted (entry ∷ offsets) n m value = by (found_inserted offsets n m va
   again : (a b : Bool) (last : ℕ) (rest : Option ℕ) → cond a (Some value) (cond a (Some last) rest) ≡ cond a (Some value) rest
   again true b last rest = refl
   again false b last rest = refl
+
   turned : (a b : Bool) (last : ℕ) (rest : Option ℕ) → nat_eq n m ≡ a → nat_eq n entry.0 ≡ b → nat_eq m entry.0 ≡ false
       → cond b (Some last) (cond a (Some value) rest) ≡ cond a (Some value) (cond b (Some last) rest)
   turned false false last rest one other differ = refl
   turned false true last rest one other differ = refl
   turned true false last rest one other differ = refl
   turned true true last rest one other differ = absurd (not_all n m entry.0 one other differ)
+
   by : lookup (nat_eq n) (insert_entry nat_eq offsets m value) ≡ cond (nat_eq n m) (Some value) (lookup (nat_eq n) offsets)
       → (same : Bool) → nat_eq m entry.0 ≡ same
       → lookup (nat_eq n) (insert_entry nat_eq (entry ∷ offsets) m value) ≡ cond (nat_eq n m) (Some value) (lookup (nat_eq n) (entry ∷ offsets))
@@ -202,5 +204,5 @@ module _ (front : List (List Token)) (statement : List Token) (symbols : List Ke
   stored_data = record {
     below = below;
     at = λ key off. reached_push front statement (Some line) is key off ∙ by key off (nat_eq (place_of names key) count) refl
-      ∙ ap (λ (last : Option ℕ). not (is_above_last last off)) (sym (found_inserted offsets (place_of names key) count line.off));
+        ∙ ap (λ (last : Option ℕ). not (is_above_last last off)) (sym (found_inserted offsets (place_of names key) count line.off));
   }

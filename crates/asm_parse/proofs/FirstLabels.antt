@@ -1,5 +1,5 @@
 -- The labels and functions of what was read, as facts about the statements say them.
-use Rattle.std.proofs.Common.{◌≡◌, ℕ, ◌+◌, ◌-◌, ◌≤◌, Bool, true, false, cond, ◌||◌, not, List, [], ◌∷◌, ◌++◌, length, drop, map, reverse, refl, sym, ap, ◌∙◌, append_assoc, arith}
+use Rattle.std.proofs.Common.{◌≡◌, ℕ, ◌+◌, ◌-◌, Bool, true, false, cond, ◌||◌, not, List, [], ◌∷◌, ◌++◌, length, drop, map, refl, sym, ap, ◌∙◌, append_assoc, arith}
 use Rattle.std.specs.Prelude.{◌&&◌, bytes_eq}
 use Rattle.std.specs.List.{list_any, flat_map, after_last, suffix_len, prefix_len}
 use Rattle.std.proofs.Math.Bool.{and-true, or-false}
@@ -9,7 +9,7 @@ use Rattle.std.proofs.lemmas.List.Folds.{list_any-append}
 use Rattle.goasm_base.specs.declared.pos.Pos.{Pos}
 use Rattle.asm_lex.specs.declared.token.Token.{Token}
 use Rattle.asm_grammar.specs.declared.statement.CodeLine.{CodeLine}
-use Rattle.asm_parse.specs.Numbering.{Key, has_name, with_name}
+use Rattle.asm_parse.specs.Numbering.{Key, has_name}
 use Rattle.asm_parse.specs.Lines.{Gathered, with_label, labelled, are_new, with_lock, with_own_slot, with_line, is_aside}
 use Rattle.asm_parse.specs.First.{begins, labels_of, is_inside, labels_before, repeats}
 

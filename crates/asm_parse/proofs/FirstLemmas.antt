@@ -1,13 +1,9 @@
 -- What is refused as statements are read, one by one, is what the facts about them say.
-use Rattle.std.proofs.Common.{◌≡◌, ◌≢◌, ℕ, ◌+◌, ◌≤◌, Bool, true, false, cond, ◌||◌, not, List, [], ◌∷◌, ◌++◌, length, map, Option, Some, None, Result, Ok, Err, refl, sym, ap, ◌∙◌, subst, arith}
-use Rattle.std.specs.Prelude.{All, ◌&&◌, fold, is_some, is_none, nat_eq}
-use Rattle.std.specs.Option.{option_map, option_or}
+use Rattle.std.proofs.Common.{◌≡◌, ℕ, Bool, true, false, cond, ◌||◌, not, List, [], ◌∷◌, ◌++◌, map, Option, Some, None, Ok, Err, refl, sym, ap, ◌∙◌, subst}
+use Rattle.std.specs.Prelude.{◌&&◌, is_some}
+use Rattle.std.specs.Option.{option_map}
 use Rattle.std.proofs.Math.Bool.{or-false}
 use Rattle.std.proofs.lemmas.Bool.{or_right}
-use Rattle.std.proofs.lemmas.List.{length_push}
-use Rattle.std.proofs.lemmas.List.Elements.{All-nil, All-append, All-weaker}
-use Rattle.indexmap.specs.IndexMap.{insert_entry}
-use Rattle.goasm_base.specs.Refusals as refusals
 use Rattle.goasm_base.specs.declared.pos.Pos.{Pos}
 use Rattle.asm_lex.specs.declared.token.Token.{Token}
 use Rattle.asm_grammar.specs.declared.cause.Cause.{Cause}
@@ -25,20 +21,18 @@ use Rattle.asm_grammar.specs.Reader.{Reading, going_on, eat_label}
 use Rattle.asm_grammar.specs.Statements.{statement, labels, form}
 use Rattle.asm_grammar.specs.Statements as grammar
 use Rattle.asm_parse.specs.declared.ahead.Outlook.{Outlook}
-use Rattle.asm_parse.specs.declared.parse_no.ParseNo.{ParseNo}
 use Rattle.asm_parse.specs.declared.parse_no.ParseNo.TheVariants.{P1}
 use Rattle.asm_parse.specs.declared.progress.Head.{Head}
 use Rattle.asm_parse.specs.declared.step.Read.{Read}
 use Rattle.asm_parse.specs.Refusals.{◌>>=◌, refusal}
 use Rattle.asm_parse.specs.Ahead.{outlook_of}
-use Rattle.asm_parse.specs.Numbering.{Key}
 use Rattle.asm_parse.specs.Lines.{Gathered, none_yet, labelled}
-use Rattle.asm_parse.specs.Progress.{State, nothing_yet, key_of, number_in, with_symbol, with_name_of, with_names, with_labels, with_value, ended_by, ended}
-use Rattle.asm_parse.specs.Steps.{read_or_refused, read, has_place, names_words, found_if, form_cause, kept_form, kept, cause_of, unless_refused, judged, step, steps}
-use Rattle.asm_parse.specs.First.{Refused, first_of, said, read_in, is_text, begins_in, begins, labels_in, labels_of, data_of, data_in, data_at, is_code, is_inside, labels_before, repeats, is_reached, is_disordered, refused_in, refused_at, placed, refused_from, kept_in, kept_at}
+use Rattle.asm_parse.specs.Progress.{State, nothing_yet, key_of, with_symbol, with_name_of, with_names, with_labels, with_value, ended_by, ended}
+use Rattle.asm_parse.specs.Steps.{read_or_refused, read, has_place, names_words, found_if, form_cause, kept_form, kept, cause_of, unless_refused, judged, step}
+use Rattle.asm_parse.specs.First.{first_of, said, read_in, is_text, begins_in, begins, labels_in, labels_of, data_of, data_in, data_at, is_code, is_inside, labels_before, repeats, is_reached, is_disordered, refused_in, refused_at, placed, kept_in, kept_at}
 use Rattle.asm_parse.proofs.SymbolLemmas.{names_operands}
 use Rattle.asm_parse.proofs.KnownLemmas.{ended_lines, after_code, after_data}
-use Rattle.asm_parse.proofs.FirstLists.{told, Says, says_none, passes, stops_there, at_place, says_here, judged_first}
+use Rattle.asm_parse.proofs.FirstLists.{told, judged_first}
 use Rattle.asm_parse.proofs.FirstLabels.{own, new_labels, kept_labels, line_labels, inside_push, labels_begin, labels_push}
 use Rattle.asm_parse.proofs.FirstData.{IsStored, stored_with, stored_other, stored_data}
 

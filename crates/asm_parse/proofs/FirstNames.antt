@@ -1,12 +1,12 @@
 -- The first refusal of a source, by its statements and then by its names, is the one that reading and resolving give.
-use Rattle.std.proofs.Common.{◌≡◌, ◌≢◌, ℕ, suc, ◌+◌, ◌≤◌, Bool, true, false, cond, ◌||◌, not, List, [], ◌∷◌, ◌++◌, length, map, Option, Some, None, Result, Ok, Err, refl, sym, ap, ◌∙◌, subst, arith}
-use Rattle.std.specs.Prelude.{All, ◌&&◌, fold, is_none}
+use Rattle.std.proofs.Common.{◌≡◌, ◌≢◌, ℕ, suc, ◌+◌, ◌≤◌, Bool, true, false, cond, ◌||◌, not, List, [], ◌∷◌, ◌++◌, length, map, Option, Some, None, Result, Ok, Err, refl, sym, ap, ◌∙◌, subst, arith, inl, inr}
+use Rattle.std.specs.Prelude.{All, IfErr, OnOk, ◌&&◌, fold, is_none}
 use Rattle.std.specs.List.{list_any}
 use Rattle.std.specs.Option.{option_map, option_or}
 use Rattle.std.proofs.lemmas.List.{length_push}
 use Rattle.std.proofs.lemmas.List.Elements.{All-nil, All-append, All-weaker}
 use Rattle.goasm_base.specs.Refusals as refusals
-use Rattle.goasm_base.specs.declared.pos.Pos.{Pos}
+use Rattle.goasm_base.proofs.RefusalLemmas.{first_found, none_found as nothing_found}
 use Rattle.goasm_base.specs.declared.statement.Operand.{Operand}
 use Rattle.goasm_base.specs.declared.statement.Operand.TheVariants as operands
 use Rattle.asm_lex.specs.declared.token.Token.{Token}
@@ -22,12 +22,12 @@ use Rattle.asm_parse.specs.Ahead.{outlook_of}
 use Rattle.asm_parse.specs.Numbering.{Key}
 use Rattle.asm_parse.specs.Progress.{State, nothing_yet, ended}
 use Rattle.asm_parse.specs.Steps.{step, steps}
-use Rattle.asm_parse.specs.Resolve.{reached, goal_of, labelled, bare, away_to, is_unknown, has_unknown, operand_of, statement_of, function_of}
+use Rattle.asm_parse.specs.Resolve.{reached, goal_of, labelled, away_to, is_unknown, has_unknown, operand_of, statement_of, function_of}
 use Rattle.asm_parse.specs.Parse.{statements_of, read_of, unit_of, parsed}
-use Rattle.asm_parse.specs.First.{Refused, first_of, when, placed, refused_at, refused_from, kept_at, is_lost, unnamed_at, unnamed_from, unnamed_in, bodies_of, no_of, first_in, refusal_of}
-use Rattle.asm_parse.proofs.FirstLists.{told, Says, IsTold, passes, stops_there, at_place, says_here, lt_itself, eq_itself, answer_of}
+use Rattle.asm_parse.specs.First.{Refused, first_of, when, placed, refused_at, refused_from, kept_at, is_lost, unnamed_at, unnamed_from, unnamed_in, bodies_of, no_of, first_in, refusal_of, place_of, number_of, of_statements, of_names, IsFirstOf, IsFirstRefusal}
+use Rattle.asm_parse.proofs.FirstLists.{told, Says, passes, stops_there, at_place, says_here, lt_itself, eq_itself, answer_of}
 use Rattle.asm_parse.proofs.FirstLabels.{or_none}
-use Rattle.asm_parse.proofs.FirstLemmas.{Agrees, begun_agrees, IsNext, step_told, step_next}
+use Rattle.asm_parse.proofs.FirstLemmas.{Agrees, begun_agrees, step_told, step_next}
 
 -- Statements, one after the other.
 
@@ -64,8 +64,8 @@ module _ (word : List ℕ → Bool) (front : List (List Token)) (state : State) 
   unfolding refused_from steps
   read_by again (Err refused) is = record {
     says = rw is (stops_there (map (placed (length front)) here) (refused_from word further rest) (length front) (length front + 1) (length front + length (statement ∷ rest)) refused (omega arith) (omega arith)
-      (own (Err refused) is)
-      (All-weaker (λ (r : Refused). length further ≤ r.place) (λ (r : Refused). length front + 1 ≤ r.place) (λ r within. omega (arith, length_push front statement)) (refused_from word further rest) (refused_places word further rest)));
+        (own (Err refused) is)
+        (All-weaker (λ (r : Refused). length further ≤ r.place) (λ (r : Refused). length front + 1 ≤ r.place) (λ r within. omega (arith, length_push front statement)) (refused_from word further rest) (refused_places word further rest)));
     kept = λ last answer. (let wrong : Err refused ≡ Ok last = rw is at answer in absurd (no_value refused last wrong));
   }
   read_by again (Ok next) is =
@@ -77,7 +77,7 @@ module _ (word : List ℕ → Bool) (front : List (List Token)) (state : State) 
       = subst (λ (n : ℕ). Says (refused_from word further rest) n (length front + length (statement ∷ rest)) (told (steps word next rest))) count
       (subst (λ (n : ℕ). Says (refused_from word further rest) (length further) n (told (steps word next rest))) high read.says) in record {
         says = rw is (passes (map (placed (length front)) here) (refused_from word further rest) (length front) (length front + 1) (length front + length (statement ∷ rest)) (told (steps word next rest)) (omega arith)
-          (own (Ok next) is) behind);
+            (own (Ok next) is) behind);
         kept = λ last answer. read.kept last (rw is at answer) ∙ ap (λ (s : State). fold kept_at s rest) following.0;
       }
 
@@ -245,3 +245,35 @@ judges_by said first (Err refused) same gives = λ kept. same ∙ ap (λ (a : Re
 
 pub judged : (word : List ℕ → Bool) (tokens : List Token) (answer : Result Said ParseNo) → refusals.Gives Memory (parsed word tokens) answer → refusals.Judges Memory answer (refusal_of word tokens)
 judged word tokens answer gives = judges_by (parsed word tokens) (refusal_of word tokens) answer (first_told word tokens) gives
+
+-- The first of all, as a refusal before which none comes.
+
+first_is : (all : List Refused) (found : ParseNo) (best : Option Refused) → first_of all ≡ best → option_map no_of best ≡ Some found → IsFirstOf all found
+first_is all found None is same = absurd cc
+first_is all found (Some refused) is same =
+    let own : refused.no ≡ found = cc in record { refused = refused; is = own; first = first_found place_of number_of all refused is }
+
+module _ (word : List ℕ → Bool) (tokens : List Token) where
+  first_in_all : (found : ParseNo) (best : Option Refused) → first_of (of_statements word tokens) ≡ best → refusal_of word tokens ≡ Some found → IsFirstRefusal word tokens found
+  first_in_all found (Some refused) is same =
+      inl (first_is (of_statements word tokens) found (Some refused) is (sym (ap (λ (b : Option Refused). option_map no_of (option_or b (first_of (of_names word tokens)))) is) ∙ same))
+  first_in_all found None is same =
+      inr (
+        nothing_found place_of number_of (of_statements word tokens) is,
+        first_is (of_names word tokens) found (first_of (of_names word tokens)) refl (sym (ap (λ (b : Option Refused). option_map no_of (option_or b (first_of (of_names word tokens)))) is) ∙ same),
+      )
+
+  nothing : (best late : Option Refused) → option_map no_of (option_or best late) ≡ None → (best ≡ None) × (late ≡ None)
+  nothing None None is = (refl, refl)
+  nothing None (Some refused) is = absurd cc
+  nothing (Some refused) late is = absurd cc
+
+  pub is_first : (answer : Result Said ParseNo) → refusals.Judges Memory answer (refusal_of word tokens) → IfErr answer (λ refused. refused ≢ Memory → IsFirstRefusal word tokens refused)
+  is_first (Ok unit) judges = tt
+  is_first (Err refused) judges = λ kept. first_in_all refused (first_of (of_statements word tokens)) refl (judges kept)
+
+  pub none_refused : (answer : Result Said ParseNo) → refusals.Judges Memory answer (refusal_of word tokens) → OnOk answer ((of_statements word tokens ≡ []) × (of_names word tokens ≡ []))
+  none_refused (Ok unit) judges =
+      let none = nothing (first_of (of_statements word tokens)) (first_of (of_names word tokens)) judges in
+      (nothing_found place_of number_of (of_statements word tokens) none.0, nothing_found place_of number_of (of_names word tokens) none.1)
+  none_refused (Err refused) judges = tt

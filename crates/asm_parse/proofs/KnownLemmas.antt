@@ -1,5 +1,5 @@
 -- A statement that is kept leaves all that was read known.
-use Rattle.std.proofs.Common.{◌≡◌, ℕ, ◌+◌, ◌*◌, ◌<◌, ◌≤◌, Bool, true, false, List, [], ◌∷◌, ◌++◌, length, Option, Some, None, refl, sym, ap, ◌∙◌, subst, arith}
+use Rattle.std.proofs.Common.{◌≡◌, ℕ, ◌+◌, ◌*◌, ◌<◌, ◌≤◌, true, false, List, [], ◌∷◌, ◌++◌, length, Option, Some, None, refl, sym, ap, subst, arith}
 use Rattle.std.specs.Prelude.{All, IfSome, nat_eq}
 use Rattle.std.proofs.lemmas.List.{length_push}
 use Rattle.std.proofs.lemmas.List.Elements.{All-nil, All-push}
@@ -21,7 +21,7 @@ use Rattle.indexmap.specs.IndexMap.{insert_entry}
 use Rattle.asm_parse.specs.Progress.{State, nothing_yet, key_of, number_in, with_symbol, with_names, with_labels, with_lock, ended_by, ended, with_global}
 use Rattle.asm_parse.specs.Steps.{kept_form, kept}
 use Rattle.asm_parse.specs.Known.{IsNumbered, IsKnownHead, IsKnownOperand, IsKnownLine, IsKnownBody, IsKnownValue, IsKnownData, IsKnownGlobal, IsKnown}
-use Rattle.asm_parse.proofs.SymbolLemmas.{Grows, Names, grows_with, with_has, names_symbol, names_operands, names_data, operands_known, with_both, data_symbol, data_value, head_grown, lines_grown, bodies_grown, values_grown, globals_grown}
+use Rattle.asm_parse.proofs.SymbolLemmas.{grows_with, with_has, names_operands, names_data, operands_known, with_both, data_symbol, data_value, head_grown, lines_grown, bodies_grown, values_grown, globals_grown}
 
 pub nothing_known : IsKnown 0 nothing_yet
 nothing_known = record {

@@ -1,7 +1,7 @@
 -- What is refused in a source, by facts about each statement and about those that stand before and behind it, and which
 -- refusal is the first: by statements, and at one statement the one with the lowest number. What names stand for is
 -- judged only where nothing else is refused.
-use Rattle.std.specs.Prelude.{ℕ, suc, ◌+◌, Bool, true, false, not, ◌&&◌, ◌||◌, nat_le, bytes_eq, List, [], ◌∷◌, ◌++◌, length, map, fold, Option, Some, None, is_none}
+use Rattle.std.specs.Prelude.{◌≡◌, ◌⊎◌, ℕ, suc, ◌+◌, Bool, true, false, not, ◌&&◌, ◌||◌, nat_le, bytes_eq, List, [], ◌∷◌, ◌++◌, length, map, fold, Option, Some, None, is_none}
 use Rattle.std.specs.List.{list_any, filter_map, flat_map, after_last}
 use Rattle.std.specs.Option.{option_map, option_or, option_to_list}
 use Rattle.goasm_base.specs.Refusals as refusals
@@ -203,3 +203,19 @@ no_of refused = refused.no
 
 abbrev pub refusal_of : (List ℕ → Bool) → List Token → Option ParseNo
 refusal_of word tokens = option_map no_of (first_in word (statements_of tokens))
+
+-- this is what is refused, and none of the others comes before it
+pub record IsFirstOf (all : List Refused) (found : ParseNo) : Type 0 where
+  pub refused : Refused
+  pub is : refused.no ≡ found
+  pub first : refusals.IsFirst place_of number_of all refused
+
+-- all that is refused of the statements of a source, and of its names
+abbrev pub of_statements : (List ℕ → Bool) → List Token → List Refused
+of_statements word tokens = refused_from word [] (statements_of tokens)
+
+abbrev pub of_names : (List ℕ → Bool) → List Token → List Refused
+of_names word tokens = unnamed_in word 0 (bodies_of (statements_of tokens))
+
+abbrev pub IsFirstRefusal : (List ℕ → Bool) → List Token → ParseNo → Type 0
+IsFirstRefusal word tokens found = IsFirstOf (of_statements word tokens) found ⊎ ((of_statements word tokens ≡ []) × IsFirstOf (of_names word tokens) found)

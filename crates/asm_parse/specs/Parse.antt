@@ -9,7 +9,6 @@ use Rattle.asm_grammar.specs.declared.directive.DataValue.TheVariants.{Bytes, Ad
 use Rattle.asm_parse.specs.declared.parse_no.ParseNo.{ParseNo}
 use Rattle.asm_parse.specs.declared.progress.PlacedData.{PlacedData}
 use Rattle.asm_parse.specs.declared.progress.PlacedGlobal.{PlacedGlobal}
-use Rattle.goasm_base.specs.declared.pos.Pos.{Pos}
 use Rattle.asm_parse.specs.declared.unit.Unit.{Unit as Said}
 use Rattle.asm_parse.specs.declared.unit.Symbol.{Symbol}
 use Rattle.asm_parse.specs.declared.unit.DataPart.{DataPart}

@@ -1,5 +1,5 @@
 -- What the names of a function stand for, once all of the source is read.
-use Rattle.std.specs.Prelude.{ℕ, ℤ, Bool, false, not, ◌+◌, ◌-◌, ◌^◌, ◌==◌, ◌&&◌, nat_lt, nat_le, List, length, slice_get, Option, Some, None, Result, Ok, Err, is_none, option_and_then, unsigned_abs, int_lt, pos, if◌then◌else◌}
+use Rattle.std.specs.Prelude.{ℕ, ℤ, Bool, false, not, ◌+◌, ◌-◌, ◌^◌, ◌==◌, ◌&&◌, nat_lt, nat_le, List, length, slice_get, Option, Some, None, Result, Ok, Err, is_none, unsigned_abs, int_lt, pos, if◌then◌else◌}
 use Rattle.std.specs.List.{list_any}
 use Rattle.goasm_base.specs.declared.pos.Pos.{Pos}
 use Rattle.goasm_base.specs.declared.statement.Operand.{Operand}

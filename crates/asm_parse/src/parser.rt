@@ -1,4 +1,4 @@
-ghost use Rattle.std.specs.Prelude.{◌≡◌, ◌≤◌, List, ℕ, Bool, length, sum_by, IfOk, OnOk};
+ghost use Rattle.std.specs.Prelude.{◌≡◌, ◌≢◌, ◌≤◌, List, [], ℕ, Bool, length, sum_by, IfOk, IfErr, OnOk};
 ghost use Rattle.asm_parse.specs.Refusals.{Gives, Moves};
 ghost use Rattle.asm_parse.specs.Steps.{steps};
 ghost use Rattle.asm_parse.specs.Ahead.{seen};
@@ -6,7 +6,7 @@ ghost use Rattle.asm_parse.specs.Parse as spec;
 ghost use Rattle.asm_parse.specs.Words.{IsAskable, Tells};
 ghost use Rattle.asm_parse.specs.Known.{IsKnown};
 ghost use Rattle.asm_parse.specs.Valid.{IsValidUnit};
-ghost use Rattle.asm_parse.specs.First.{refusal_of};
+ghost use Rattle.asm_parse.specs.First.{refusal_of, IsFirstRefusal, of_statements, of_names};
 ghost use Rattle.goasm_base.specs.Refusals.{Judges};
 
 use crate::ahead::{Opening, Outlook, outlooks};
@@ -23,6 +23,10 @@ const NOTHING_AHEAD: Outlook = Outlook {
 };
 
 /// The unit that a source's tokens say, under these words of the target.
+///
+/// They are refused exactly where something in them is, with the first refusal: by statements, and at one statement the
+/// one with the lowest number. What names stand for (P3 and P8) is judged only where nothing else is refused. Only want
+/// of memory may come in place of any answer.
 pub fn parse<W: Fn(&[u8]) -> bool>(
     alloc: Global,
     tokens: &Tokens,
@@ -32,7 +36,11 @@ pub fn parse<W: Fn(&[u8]) -> bool>(
     requires few { length tokens.now.list ≤ 4_000_000 }
     ensures exact { (word : List ℕ → Bool) → Tells (W.post is_word) word → Gives (spec.parsed word tokens.now.list) result }
     ensures valid { IfOk result IsValidUnit }
-    ensures first { (word : List ℕ → Bool) → Tells (W.post is_word) word → Judges ParseNo.Memory result (refusal_of word tokens.now.list) }
+    ensures refused { (word : List ℕ → Bool) → Tells (W.post is_word) word → Judges ParseNo.Memory result (refusal_of word tokens.now.list) }
+    ensures first { (word : List ℕ → Bool) → Tells (W.post is_word) word
+        → IfErr result (λ refused. refused ≢ ParseNo.Memory → IsFirstRefusal word tokens.now.list refused) }
+    ensures none { (word : List ℕ → Bool) → Tells (W.post is_word) word
+        → OnOk result ((of_statements word tokens.now.list ≡ []) × (of_names word tokens.now.list ≡ [])) }
 {
     let statements = statements_in(alloc, tokens.list.as_slice())?;
     let progress = read_all(alloc, statements.as_slice(), &is_word)?;

@@ -157,7 +157,10 @@ const FIRST: [(&str, (u32, u32)); 30] = [
     ("TEXT f(SB), 1/0, $4\n", (1, 1)),
     ("TEXT f(SB), 4, $0-0\na: RET\na: MOVQ 8(FP), AX\n", (2, 3)),
     ("TEXT f(SB), 4, $0-0\na: RET\na: BYTE $1/0\n", (2, 3)),
-    ("TEXT f(SB), 4, $0-0\na: LOCK\nRET\na: LOCK\nMOVQ 8(FP), AX\n", (2, 4)),
+    (
+        "TEXT f(SB), 4, $0-0\na: LOCK\nRET\na: LOCK\nMOVQ 8(FP), AX\n",
+        (2, 4),
+    ),
     ("TEXT f(SB), 4, $0-0\nBYTE 8(FP)\n", (4, 2)),
     ("BYTE 8(FP), $1/0\n", (4, 1)),
     ("TEXT f(SB), 1/0, $8\n", (5, 1)),
@@ -168,15 +171,24 @@ const FIRST: [(&str, (u32, u32)); 30] = [
     ("LONG $1\n", (9, 1)),
     ("RET\nMOVQ AX,\n", (9, 1)),
     ("RET\nTEXT f(SB), 0, $0\n", (9, 1)),
-    ("DATA x+0(SB)/8, $1\nGLOBL x(SB), $8\nLOCK; BYTE $1\n", (9, 3)),
+    (
+        "DATA x+0(SB)/8, $1\nGLOBL x(SB), $8\nLOCK; BYTE $1\n",
+        (9, 3),
+    ),
     ("TEXT f(SB), 4, $0-0\nBYTE $1\nMOVQ AX,\n", (10, 2)),
     ("TEXT f(SB), 4, $0-0\nBYTE $1\na: a: RET\n", (10, 2)),
-    ("TEXT f(SB), 4, $0-0\nMOVQ $1/0, AX\nMOVQ 8(FP), AX\n", (7, 2)),
+    (
+        "TEXT f(SB), 4, $0-0\nMOVQ $1/0, AX\nMOVQ 8(FP), AX\n",
+        (7, 2),
+    ),
     // What names stand for comes last, wherever it stands.
     ("TEXT f(SB), 4, $0-0\nJMP b\nTEXT g(SB), 0, $0\n", (5, 3)),
     ("TEXT f(SB), 4, $0-0\nJMP b\n\nMOVQ AX,\n", (1, 4)),
     ("TEXT f(SB), 4, $0-0\nJMP 9(PC)\na: RET\na: RET\n", (2, 4)),
-    ("TEXT f(SB), 4, $0-0\nJMP 9(PC)\nJMP b\nMOVQ 8(FP), AX\n", (4, 4)),
+    (
+        "TEXT f(SB), 4, $0-0\nJMP 9(PC)\nJMP b\nMOVQ 8(FP), AX\n",
+        (4, 4),
+    ),
     ("TEXT f(SB), 4, $0-0\nJMP b\nBYTE b\n", (10, 3)),
     ("TEXT f(SB), 4, $0-0\nJMP b\nRET\nJMP 9(PC)\n", (3, 2)),
     (

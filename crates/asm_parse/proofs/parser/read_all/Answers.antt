@@ -1,7 +1,6 @@
 use Rattle.std.proofs.Common.{length, subst, sym}
 use Rattle.std.specs.Prelude.{sum_by}
 use Rattle.asm_parse.specs.Ahead.{seen}
-use Rattle.asm_parse.specs.Progress.{State}
 use Rattle.asm_parse.specs.Known.{IsKnown}
 use Rattle.asm_parse.proofs.KnownLemmas.{nothing_known, ended_known}
 use Rattle.asm_parse.proofs.parser.read_all.Goals as goal

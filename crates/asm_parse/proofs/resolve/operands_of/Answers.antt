@@ -16,7 +16,7 @@ returns-in_err-operand-clause-exact g c =
 pub loop-draft-preserved : goal.loop-draft-preserved
 loop-draft-preserved g c = record {
   so_far = λ word tells. goes_on (with_front (operand_of word c.args.symbols.now c.args.body.now c.args.line.now)) c.args.drafts.now c.loop-draft.draft-index (traversed (operand_of word c.args.symbols.now c.args.body.now c.args.line.now) c.args.drafts.now) c.loop-draft.operands.items c.push.new.self.items c.draft-item.result (c.loop-draft.invariant.so_far word tells) c.loop-draft-test.true c.draft-item.is
-    (turn (operand_of word c.args.symbols.now c.args.body.now c.args.line.now) c.loop-draft.operands.items c.push.new.self.items c.draft-item.result c.in_ok-operand.operand (c.in_ok-operand.ensures.exact word tells) c.in_ok-push.ensures.items);
+      (turn (operand_of word c.args.symbols.now c.args.body.now c.args.line.now) c.loop-draft.operands.items c.push.new.self.items c.draft-item.result c.in_ok-operand.operand (c.in_ok-operand.ensures.exact word tells) c.in_ok-push.ensures.items);
   valid = All-same (IsValidOperand (length c.args.symbols.now) (length c.args.body.now.lines)) c.push.new.self.items (c.loop-draft.operands.items ++ c.in_ok-operand.operand ∷ []) c.in_ok-push.ensures.items (All-push (IsValidOperand (length c.args.symbols.now) (length c.args.body.now.lines)) c.loop-draft.operands.items c.in_ok-operand.operand c.loop-draft.invariant.valid c.in_ok-operand.ensures.valid);
 }
 

@@ -17,7 +17,7 @@ returns-in_err-stmt-clause-exact g c =
 pub loop-line-preserved : goal.loop-line-preserved
 loop-line-preserved g c = record {
   so_far = λ word tells. goes_on (with_front (statement_of word c.args.symbols.now c.args.body.now)) c.args.lines.now c.loop-line.line-index (traversed (statement_of word c.args.symbols.now c.args.body.now) c.args.lines.now) c.loop-line.stmts.items c.push.new.self.items c.line-item.result (c.loop-line.invariant.so_far word tells) c.loop-line-test.true c.line-item.is
-    (turn (statement_of word c.args.symbols.now c.args.body.now) c.loop-line.stmts.items c.push.new.self.items c.line-item.result c.in_ok-stmt.stmt (c.in_ok-stmt.ensures.exact word tells) c.in_ok-push.ensures.items);
+      (turn (statement_of word c.args.symbols.now c.args.body.now) c.loop-line.stmts.items c.push.new.self.items c.line-item.result c.in_ok-stmt.stmt (c.in_ok-stmt.ensures.exact word tells) c.in_ok-push.ensures.items);
   valid = All-same (IsValidStatement (length c.args.symbols.now) (length c.args.body.now.lines)) c.push.new.self.items (c.loop-line.stmts.items ++ c.in_ok-stmt.stmt ∷ []) c.in_ok-push.ensures.items (All-push (IsValidStatement (length c.args.symbols.now) (length c.args.body.now.lines)) c.loop-line.stmts.items c.in_ok-stmt.stmt c.loop-line.invariant.valid c.in_ok-stmt.ensures.valid);
   count = ap length c.in_ok-push.ensures.items ∙ length_push c.loop-line.stmts.items c.in_ok-stmt.stmt ∙ ap (λ (n : ℕ). n + 1) c.loop-line.invariant.count;
 }

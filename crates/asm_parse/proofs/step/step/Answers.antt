@@ -1,4 +1,4 @@
-use Rattle.std.proofs.Common.{ℕ, ◌+◌, length, subst, sym, arith}
+use Rattle.std.proofs.Common.{◌+◌, length, subst, sym, arith}
 use Rattle.asm_parse.specs.Progress.{State}
 use Rattle.asm_parse.specs.Known.{IsKnown}
 use Rattle.asm_parse.proofs.KnownLemmas.{kept_known}

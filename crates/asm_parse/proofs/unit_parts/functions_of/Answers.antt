@@ -16,7 +16,7 @@ returns-in_err-function-clause-exact g c =
 pub loop-body-preserved : goal.loop-body-preserved
 loop-body-preserved g c = record {
   so_far = λ word tells. goes_on (with_front (function_of word c.args.symbols.now)) c.args.bodies.now c.loop-body.body-index (traversed (function_of word c.args.symbols.now) c.args.bodies.now) c.loop-body.functions.items c.push.new.self.items c.body-item.result (c.loop-body.invariant.so_far word tells) c.loop-body-test.true c.body-item.is
-    (turn (function_of word c.args.symbols.now) c.loop-body.functions.items c.push.new.self.items c.body-item.result c.in_ok-function.function (c.in_ok-function.ensures.exact word tells) c.in_ok-push.ensures.items);
+      (turn (function_of word c.args.symbols.now) c.loop-body.functions.items c.push.new.self.items c.body-item.result c.in_ok-function.function (c.in_ok-function.ensures.exact word tells) c.in_ok-push.ensures.items);
   valid = All-same (IsValidFunction (length c.args.symbols.now)) c.push.new.self.items (c.loop-body.functions.items ++ c.in_ok-function.function ∷ []) c.in_ok-push.ensures.items (All-push (IsValidFunction (length c.args.symbols.now)) c.loop-body.functions.items c.in_ok-function.function c.loop-body.invariant.valid c.in_ok-function.ensures.valid);
 }
 
