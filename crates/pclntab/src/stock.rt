@@ -38,7 +38,10 @@ pub fn store(alloc: Global, stock: &mut Stock, runs: &[Run], quantum: u8) -> Res
     let table = encode(alloc, runs, quantum)?;
     match stock.offsets.get(table.as_slice()) {
         Some(offset) => Ok(*offset),
-        None => add(alloc, stock, table.as_slice()),
+        None => {
+            let offset = add(alloc, stock, table.as_slice())?;
+            Ok(offset)
+        }
     }
 }
 

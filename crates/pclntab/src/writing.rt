@@ -43,6 +43,7 @@ pub struct Subtables<'a> {
     pub funcs: &'a [u8],
 }
 
+#[tactic(auto, using(crate::proofs::LengthLemmas::words_fit, crate::proofs::LengthLemmas::runs_are))]
 fn write_bytes(alloc: Global, parts: &TableParts) -> Result<Vec<u8>, Memory>
     requires { AreParts parts.now }
     ensures { IfOk result (λ bytes. bytes.items ≡ written parts.now) }
@@ -58,7 +59,8 @@ fn write_bytes(alloc: Global, parts: &TableParts) -> Result<Vec<u8>, Memory>
         pcs: funcs.stock.bytes.as_slice(),
         funcs: funcs.pairs.as_slice(),
     };
-    join(alloc, parts, &five)
+    let bytes = join(alloc, parts, &five)?;
+    Ok(bytes)
 }
 
 // The header and the tables, each at the next multiple of 8.
@@ -127,6 +129,7 @@ struct FileBytes {
     names: Vec<u8>,
 }
 
+#[tactic(auto, using(crate::proofs::FuncLemmas::no_files, crate::proofs::FuncLemmas::all_names, crate::proofs::FuncLemmas::all_units, crate::proofs::FuncLemmas::files_short))]
 fn write_files(alloc: Global, files: &[Name]) -> Result<FileBytes, Memory>
     requires { length (texts files.now) < 2 ^ 32 }
     ensures units { IfOk result (λ written. written.units.items ≡ words (starts 0 files.now)) }
