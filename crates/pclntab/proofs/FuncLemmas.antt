@@ -83,19 +83,19 @@ same_offset : (tables others all : List (List ℕ)) (table : List ℕ)
     → has_table tables table ≡ true → all_kept tables others ≡ all → offset_of all table ≡ offset_of tables table
 same_offset tables others all table there is = ap (λ n. 1 + n) (ap (λ ts. length_before ts table) (sym is) ∙ before_all_kept tables others table there)
 
-has_depth : (tables : List (List ℕ)) (quantum : ℕ) (func : FuncPart) → has_table (all_kept tables (tables_of quantum func)) (table_bytes quantum func.depth) ≡ true
+pub has_depth : (tables : List (List ℕ)) (quantum : ℕ) (func : FuncPart) → has_table (all_kept tables (tables_of quantum func)) (table_bytes quantum func.depth) ≡ true
 unfolding all_kept
 has_depth tables quantum func =
     still_all_kept (kept tables (table_bytes quantum func.depth)) (table_bytes quantum func.file ∷ table_bytes quantum func.line ∷ [])
     (table_bytes quantum func.depth) (has_kept tables (table_bytes quantum func.depth))
 
-has_file : (tables : List (List ℕ)) (quantum : ℕ) (func : FuncPart) → has_table (all_kept tables (tables_of quantum func)) (table_bytes quantum func.file) ≡ true
+pub has_file : (tables : List (List ℕ)) (quantum : ℕ) (func : FuncPart) → has_table (all_kept tables (tables_of quantum func)) (table_bytes quantum func.file) ≡ true
 unfolding all_kept
 has_file tables quantum func =
     still_all_kept (kept (kept tables (table_bytes quantum func.depth)) (table_bytes quantum func.file)) (table_bytes quantum func.line ∷ [])
     (table_bytes quantum func.file) (has_kept (kept tables (table_bytes quantum func.depth)) (table_bytes quantum func.file))
 
-has_line : (tables : List (List ℕ)) (quantum : ℕ) (func : FuncPart) → has_table (all_kept tables (tables_of quantum func)) (table_bytes quantum func.line) ≡ true
+pub has_line : (tables : List (List ℕ)) (quantum : ℕ) (func : FuncPart) → has_table (all_kept tables (tables_of quantum func)) (table_bytes quantum func.line) ≡ true
 unfolding all_kept
 has_line tables quantum func =
     has_kept (kept (kept tables (table_bytes quantum func.depth)) (table_bytes quantum func.file)) (table_bytes quantum func.line)

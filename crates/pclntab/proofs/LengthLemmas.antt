@@ -27,7 +27,7 @@ length-longs (number ∷ numbers) =
     let rest : length (flat_map (little_bytes 8) numbers) ≡ 8 * length numbers = length-longs numbers in
     omega (arith, length-append (little_bytes 8 number) (flat_map (little_bytes 8) numbers), length-bytes_low_first 0 8 number)
 
-length-places : (unit at : ℕ) (parts : List (List ℕ)) → length (places unit at parts) ≡ length parts
+pub length-places : (unit at : ℕ) (parts : List (List ℕ)) → length (places unit at parts) ≡ length parts
 unfolding places
 length-places unit at [] = refl
 length-places unit at (part ∷ parts) =
@@ -69,7 +69,7 @@ length-pair_words parts =
     omega (arith, length-words (pairs (first_record parts) parts.funcs ++ parts.text_len ∷ []),
     length-append (pairs (first_record parts) parts.funcs) (parts.text_len ∷ []), length-pairs (first_record parts) parts.funcs)
 
-length-funcs_bytes : (parts : TableParts) → length (funcs_bytes parts) ≡ first_record parts + 44 * length parts.funcs
+pub length-funcs_bytes : (parts : TableParts) → length (funcs_bytes parts) ≡ first_record parts + 44 * length parts.funcs
 unfolding funcs_bytes records
 length-funcs_bytes parts =
     omega (arith, length-append (words (pairs (first_record parts) parts.funcs ++ parts.text_len ∷ [])) (flat_map (record_bytes parts.quantum (kept_of parts)) (rows 0 parts.funcs)),

@@ -5,4 +5,8 @@ mod SearchLemmas
 mod StockLemmas
 mod FuncLemmas
 mod LengthLemmas
+mod ReadLemmas
+mod HeaderLemmas
+mod RowLemmas
+mod TellLemmas
 mod Examples

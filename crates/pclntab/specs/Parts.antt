@@ -10,7 +10,7 @@ use Rattle.pclntab.specs.declared.parts.TableParts.{TableParts}
 use Rattle.pclntab.specs.declared.parts.FuncPart.{FuncPart}
 use Rattle.pclntab.specs.Places.{func_count, text_start}
 use Rattle.pclntab.specs.Texts.{is_zero}
-use Rattle.pclntab.specs.Func.{HasPc, entry_of, end_of, name_of, args_of, flags_of, depth_at, line_at, file_at}
+use Rattle.pclntab.specs.Func.{HasPc, entry_of, name_of, args_of, flags_of, depth_at, line_at, file_at}
 use Rattle.pclntab.specs.Written.{written}
 
 -- the number of one of so many files
@@ -76,5 +76,5 @@ pub record Tells (parts : TableParts) (bytes : List ℕ) : Type 0 where
   pub start : text_start bytes ≡ parts.text_start
   pub funcs : (index : ℕ) (d : FuncPart) → index < length parts.funcs
       → TellsFunc parts bytes index (slice_index_or parts.funcs index d)
-  -- the functions follow each other, and the last one ends with the text
-  pub last : end_of bytes (length parts.funcs - 1) ≡ (parts.text_start + parts.text_len)
+  -- where a further function would begin, the last one ends: with the text
+  pub last : entry_of bytes (length parts.funcs) ≡ parts.text_start + parts.text_len
