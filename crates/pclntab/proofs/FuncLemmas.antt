@@ -1,5 +1,5 @@
 -- What the loops that write functions and files know.
-use Rattle.std.proofs.Common.{◌≡◌, ℕ, zero, suc, ◌+◌, ◌*◌, ◌^◌, ◌<◌, ◌≤◌, true, List, [], ◌∷◌, ◌++◌, length, map, drop, get_or, refl, sym, ◌∙◌, ap, arith, add-one, append_assoc, append-nil, length-append}
+use Rattle.std.proofs.Common.{◌≡◌, ℕ, suc, ◌+◌, ◌*◌, ◌^◌, ◌<◌, ◌≤◌, true, List, [], ◌∷◌, ◌++◌, length, drop, get_or, refl, sym, ◌∙◌, ap, arith, add-one, append_assoc, append-nil, length-append}
 use Rattle.std.specs.List.{flat_map}
 use Rattle.std.proofs.lemmas.Grind.{flat_map-append}
 use Rattle.std.proofs.lemmas.List.{drop_all}
@@ -8,7 +8,7 @@ use Rattle.byteorder.specs.Endian.{little_bytes}
 use Rattle.pcvalue.specs.Writing.{table_bytes}
 use Rattle.pclntab.specs.declared.parts.TableParts.{TableParts}
 use Rattle.pclntab.specs.declared.parts.FuncPart.{FuncPart}
-use Rattle.pclntab.specs.Written.{text_bytes, texts, starts, words, has_table, kept, all_kept, tables_of, kept_of, stored, length_before, offset_of, Row, rows, record_bytes, records, pairs, first_record, names_of}
+use Rattle.pclntab.specs.Written.{text_bytes, texts, starts, words, has_table, kept, all_kept, tables_of, kept_of, stored, length_before, offset_of, rows, record_bytes, records, pairs, first_record, names_of}
 use Rattle.pclntab.specs.Writing.{FitWords}
 use Rattle.pclntab.proofs.StockLemmas.{has_kept, still_all_kept, before_all_kept, all_kept-append, all_kept_longer}
 
@@ -32,7 +32,7 @@ next_file files index d unit_bytes name_bytes units names inside wrote units_are
     let more_names : name_bytes ++ (text_bytes (get_or files index d) ++ flat_map text_bytes (drop (suc index) files)) ≡ flat_map text_bytes files
     = rw rest at wrote.names in
     let more_units : unit_bytes ++ (little_bytes 4 (length name_bytes)
-        ++ flat_map (little_bytes 4) (starts (length name_bytes + length (text_bytes (get_or files index d))) (drop (suc index) files)))
+    ++ flat_map (little_bytes 4) (starts (length name_bytes + length (text_bytes (get_or files index d))) (drop (suc index) files)))
     ≡ flat_map (little_bytes 4) (starts 0 files)
     = rw rest at wrote.units in
     let long : length names ≡ length name_bytes + length (text_bytes (get_or files index d))
@@ -157,13 +157,13 @@ next_func parts index place d name_bytes name_next stock stock_next pair_bytes p
     let long : length name_next ≡ length name_bytes + length (text_bytes (get_or parts.funcs index d).name)
     = ap length names_are ∙ length-append name_bytes (text_bytes (get_or parts.funcs index d).name) in
     let more_pairs : pair_bytes ++ (flat_map (little_bytes 4) ((get_or parts.funcs index d).entry ∷ place ∷ [])
-        ++ flat_map (little_bytes 4) (pairs (place + 44) (drop (suc index) parts.funcs)))
+    ++ flat_map (little_bytes 4) (pairs (place + 44) (drop (suc index) parts.funcs)))
     ≡ flat_map (little_bytes 4) (pairs (first_record parts) parts.funcs)
     = ap (λ bytes. pair_bytes ++ bytes)
     (sym (flat_map-append (little_bytes 4) ((get_or parts.funcs index d).entry ∷ place ∷ []) (pairs (place + 44) (drop (suc index) parts.funcs))))
     ∙ (rw rest at wrote.pairs_told) in
     let more_records : record_part ++ (record_bytes parts.quantum (kept_of parts) (record { name = length name_bytes; func = get_or parts.funcs index d })
-        ++ flat_map (record_bytes parts.quantum (kept_of parts)) (rows (length name_bytes + length (text_bytes (get_or parts.funcs index d).name)) (drop (suc index) parts.funcs)))
+    ++ flat_map (record_bytes parts.quantum (kept_of parts)) (rows (length name_bytes + length (text_bytes (get_or parts.funcs index d).name)) (drop (suc index) parts.funcs)))
     ≡ records parts
     = rw rest at wrote.records_told in
     let last : record_bytes parts.quantum stock_next (record { name = length name_bytes; func = get_or parts.funcs index d })

@@ -1,10 +1,9 @@
 -- What the header of a written table says.
-use Rattle.std.proofs.Common.{◌≡◌, ℕ, ◌+◌, ◌-◌, ◌*◌, ◌^◌, ◌<◌, ◌≤◌, true, List, [], ◌∷◌, ◌++◌, length, get_or, slice_index, refl, sym, ◌∙◌, ap, arith}
-use Rattle.std.proofs.lemmas.Bool.Decides.{nat_tests}
+use Rattle.std.proofs.Common.{◌≡◌, ℕ, ◌+◌, ◌-◌, ◌*◌, ◌^◌, ◌<◌, ◌≤◌, List, [], ◌∷◌, ◌++◌, length, get_or, refl, arith}
 use Rattle.byteorder.specs.Endian.{little_bytes}
 use Rattle.byteorder.specs.Numbers.{length-bytes_low_first}
 use Rattle.byte_layout.specs.Stands.{Stands}
-use Rattle.byte_layout.specs.Joined.{joined, places}
+use Rattle.byte_layout.specs.Joined.{places}
 use Rattle.byte_layout.proofs.StandsLemmas.{stands_all, stands_front, stands_back, stands_moved, stands_byte}
 use Rattle.byte_layout.proofs.JoinedLemmas.{joined_front, joined_stands}
 use Rattle.pclntab.specs.declared.parts.TableParts.{TableParts}
@@ -12,7 +11,6 @@ use Rattle.pclntab.specs.Words.{u32_at}
 use Rattle.pclntab.specs.Places.{magic, line_size, quantum, pointer_size, func_count, text_start, names_start, units_start, files_start, pcs_start, funcs_start}
 use Rattle.pclntab.specs.Written.{longs, tables, header_over, written_over, written}
 use Rattle.pclntab.specs.Parts.{AreParts}
-use Rattle.pclntab.specs.Writing.{FitWords}
 use Rattle.pclntab.proofs.LengthLemmas.{length-header, length-places, part_within, words_fit}
 use Rattle.pclntab.proofs.ReadLemmas.{u32_read, long_read}
 

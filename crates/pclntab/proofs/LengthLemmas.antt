@@ -1,16 +1,15 @@
 -- How long the parts of a written table are.
-use Rattle.std.proofs.Common.{◌≡◌, ℕ, zero, suc, ◌+◌, ◌*◌, ◌^◌, ◌<◌, ◌≤◌, List, [], ◌∷◌, ◌++◌, length, map, get_or, refl, sym, ◌∙◌, ap, arith, append_assoc, append-nil, length-append}
+use Rattle.std.proofs.Common.{◌≡◌, ℕ, suc, ◌+◌, ◌*◌, ◌^◌, ◌<◌, ◌≤◌, List, [], ◌∷◌, ◌++◌, length, get_or, refl, sym, ◌∙◌, ap, arith, append_assoc, append-nil, length-append}
 use Rattle.std.specs.List.{flat_map}
 use Rattle.std.proofs.lemmas.Grind.{flat_map-append}
 use Rattle.byteorder.specs.Endian.{little_bytes}
 use Rattle.byteorder.specs.Numbers.{length-bytes_low_first}
-use Rattle.byte_layout.specs.Joined.{aligned, joined, places, ends}
+use Rattle.byte_layout.specs.Joined.{aligned, places, ends}
 use Rattle.byte_layout.proofs.JoinedLemmas.{aligned-le, length-joined, joined_within}
 use Rattle.pclntab.specs.declared.parts.TableParts.{TableParts}
 use Rattle.pclntab.specs.declared.parts.FuncPart.{FuncPart}
-use Rattle.pclntab.specs.Places.{header_size}
 use Rattle.pclntab.specs.Written.{text_bytes, texts, starts, words, longs, kept_of, stored, Row, rows, fields, record_bytes, records, pairs, first_record, funcs_bytes, names_of, tables, header_over, written_over, written}
-use Rattle.pclntab.specs.Parts.{AreParts, IsFuncPart}
+use Rattle.pclntab.specs.Parts.{AreParts}
 use Rattle.pclntab.specs.Writing.{FitWords, HasRuns}
 
 pub length-words : (numbers : List ℕ) → length (words numbers) ≡ 4 * length numbers
@@ -37,9 +36,13 @@ length-places unit at (part ∷ parts) =
 pub length-header : (parts : TableParts) (five : List (List ℕ)) → length five ≡ 5 → length (header_over parts five) ≡ 72
 unfolding header_over
 length-header parts five count =
-    omega (arith, length-append (little_bytes 4 4294967281) ((0 ∷ 0 ∷ parts.quantum ∷ 8 ∷ []) ++ longs (length parts.funcs ∷ length parts.files ∷ parts.text_start ∷ places 8 72 five)),
-    length-bytes_low_first 0 4 4294967281,
-    length-longs (length parts.funcs ∷ length parts.files ∷ parts.text_start ∷ places 8 72 five), length-places 8 72 five)
+    omega (
+      arith,
+      length-append (little_bytes 4 4294967281) ((0 ∷ 0 ∷ parts.quantum ∷ 8 ∷ []) ++ longs (length parts.funcs ∷ length parts.files ∷ parts.text_start ∷ places 8 72 five)),
+      length-bytes_low_first 0 4 4294967281,
+      length-longs (length parts.funcs ∷ length parts.files ∷ parts.text_start ∷ places 8 72 five),
+      length-places 8 72 five,
+    )
 
 pub length-pairs : (at : ℕ) (funcs : List FuncPart) → length (pairs at funcs) ≡ 2 * length funcs
 unfolding pairs
@@ -66,14 +69,23 @@ length-flat_records quantum kept (row ∷ list) =
 
 pub length-pair_words : (parts : TableParts) → length (words (pairs (first_record parts) parts.funcs ++ parts.text_len ∷ [])) ≡ first_record parts
 length-pair_words parts =
-    omega (arith, length-words (pairs (first_record parts) parts.funcs ++ parts.text_len ∷ []),
-    length-append (pairs (first_record parts) parts.funcs) (parts.text_len ∷ []), length-pairs (first_record parts) parts.funcs)
+    omega (
+      arith,
+      length-words (pairs (first_record parts) parts.funcs ++ parts.text_len ∷ []),
+      length-append (pairs (first_record parts) parts.funcs) (parts.text_len ∷ []),
+      length-pairs (first_record parts) parts.funcs,
+    )
 
 pub length-funcs_bytes : (parts : TableParts) → length (funcs_bytes parts) ≡ first_record parts + 44 * length parts.funcs
 unfolding funcs_bytes records
 length-funcs_bytes parts =
-    omega (arith, length-append (words (pairs (first_record parts) parts.funcs ++ parts.text_len ∷ [])) (flat_map (record_bytes parts.quantum (kept_of parts)) (rows 0 parts.funcs)),
-    length-pair_words parts, length-flat_records parts.quantum (kept_of parts) (rows 0 parts.funcs), length-rows 0 parts.funcs)
+    omega (
+      arith,
+      length-append (words (pairs (first_record parts) parts.funcs ++ parts.text_len ∷ [])) (flat_map (record_bytes parts.quantum (kept_of parts)) (rows 0 parts.funcs)),
+      length-pair_words parts,
+      length-flat_records parts.quantum (kept_of parts) (rows 0 parts.funcs),
+      length-rows 0 parts.funcs,
+    )
 
 -- a part ends within the table
 pub part_within : (parts : TableParts) (index : ℕ) → index < 5

@@ -9,4 +9,5 @@ mod ReadLemmas
 mod HeaderLemmas
 mod RowLemmas
 mod TellLemmas
+pub mod WorkedLemmas
 mod Examples

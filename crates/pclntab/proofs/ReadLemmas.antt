@@ -1,7 +1,6 @@
 -- Numbers, bytes and texts that are read where they stand.
-use Rattle.std.proofs.Common.{◌≡◌, ℕ, zero, suc, ◌+◌, ◌*◌, ◌^◌, ◌<◌, ◌≤◌, true, false, cond, not, nat_lt, List, [], ◌∷◌, ◌++◌, length, take, drop, get_or, slice_index, Option, Some, None, refl, sym, ◌∙◌, ap, arith, append_assoc, length-append}
-use Rattle.std.specs.List.{flat_map, prefix_len, position}
-use Rattle.std.specs.Option.{option_map}
+use Rattle.std.proofs.Common.{◌≡◌, ℕ, ◌+◌, ◌*◌, ◌^◌, ◌<◌, ◌≤◌, true, cond, not, nat_lt, List, [], ◌∷◌, ◌++◌, length, take, drop, get_or, Some, refl, ◌∙◌, ap, arith, append_assoc, length-append}
+use Rattle.std.specs.List.{flat_map, prefix_len}
 use Rattle.std.proofs.lemmas.Bool.{lt-ltb}
 use Rattle.std.proofs.lemmas.List.{get_or-drop, length-take, take-append-le}
 use Rattle.std.proofs.lemmas.List.Sums.{prefix_len-le-length}
@@ -25,8 +24,17 @@ u32_number bytes at =
 u64_number : (bytes : List ℕ) (at : ℕ) → u64_at bytes at ≡ little_number 8 (drop at bytes)
 unfolding u64_at u32_at
 u64_number bytes at =
-    omega (arith, moved bytes at 0 at (omega arith), moved bytes at 1 (at + 1) refl, moved bytes at 2 (at + 2) refl, moved bytes at 3 (at + 3) refl,
-    moved bytes at 4 (at + 4) refl, moved bytes at 5 (at + 4 + 1) (omega arith), moved bytes at 6 (at + 4 + 2) (omega arith), moved bytes at 7 (at + 4 + 3) (omega arith))
+    omega (
+      arith,
+      moved bytes at 0 at (omega arith),
+      moved bytes at 1 (at + 1) refl,
+      moved bytes at 2 (at + 2) refl,
+      moved bytes at 3 (at + 3) refl,
+      moved bytes at 4 (at + 4) refl,
+      moved bytes at 5 (at + 4 + 1) (omega arith),
+      moved bytes at 6 (at + 4 + 2) (omega arith),
+      moved bytes at 7 (at + 4 + 3) (omega arith),
+    )
 
 pub u32_read : (bytes : List ℕ) (at number : ℕ) → Stands bytes at (little_bytes 4 number) → number < 2 ^ 32 → u32_at bytes at ≡ number
 u32_read bytes at number stands fits = u32_number bytes at ∙ stands_number bytes at 4 number stands fits

@@ -1,20 +1,17 @@
 -- What the pairs and the records of a written table say.
-use Rattle.std.proofs.Common.{◌≡◌, ℕ, zero, suc, ◌+◌, ◌*◌, ◌^◌, ◌<◌, ◌≤◌, true, List, [], ◌∷◌, ◌++◌, length, take, get_or, slice_index, map, Some, refl, sym, ◌∙◌, ap, arith, length-append}
+use Rattle.std.proofs.Common.{◌≡◌, ℕ, zero, suc, ◌+◌, ◌*◌, ◌^◌, ◌<◌, ◌≤◌, List, [], ◌∷◌, ◌++◌, length, take, get_or, slice_index, Some, refl, sym, ◌∙◌, ap, arith, length-append}
 use Rattle.std.specs.List.{flat_map}
-use Rattle.std.specs.Int.{w32, cast_unsigned}
 use Rattle.std.proofs.lemmas.List.{length-take, get_or_append_left}
 use Rattle.std.proofs.Math.Seq.{get_or-append_seam}
 use Rattle.byte_layout.specs.Stands.{Stands}
 use Rattle.byte_layout.proofs.StandsLemmas.{stands_front, stands_back, stands_each, stands_moved, stands_byte}
-use Rattle.pcvalue.specs.Writing.{table_bytes}
 use Rattle.pclntab.specs.declared.parts.TableParts.{TableParts}
 use Rattle.pclntab.specs.declared.parts.FuncPart.{FuncPart}
 use Rattle.pclntab.specs.Words.{u32_at}
 use Rattle.pclntab.specs.Texts.{text_at}
-use Rattle.pclntab.specs.Written.{text_bytes, texts, starts, words, kept_of, offset_of, Row, rows, fields, record_bytes, records, pairs, first_record, funcs_bytes, names_of, tables, written}
+use Rattle.pclntab.specs.Written.{text_bytes, texts, starts, words, kept_of, Row, rows, fields, record_bytes, records, pairs, first_record, funcs_bytes, names_of, written}
 use Rattle.pclntab.specs.Parts.{AreParts, to_zero}
-use Rattle.pclntab.specs.Writing.{FitWords}
-use Rattle.pclntab.proofs.LengthLemmas.{length-words, length-pairs, length-rows, length-record, length-flat_records, length-pair_words, length-funcs_bytes, part_within, words_fit}
+use Rattle.pclntab.proofs.LengthLemmas.{length-words, length-pairs, length-rows, length-flat_records, length-pair_words, length-funcs_bytes, part_within, words_fit}
 use Rattle.pclntab.proofs.ReadLemmas.{word_read, text_read}
 use Rattle.pclntab.proofs.HeaderLemmas.{start_of, part_stands}
 
@@ -148,7 +145,7 @@ record_stands : (parts : TableParts) (index : ℕ) (d : FuncPart) → index < le
 unfolding records
 record_stands parts index d inside =
     let one : Stands (written parts) (start_of parts 4 + first_record parts + length (flat_map (record_bytes parts.quantum (kept_of parts)) (take index (rows 0 parts.funcs))))
-      (record_bytes parts.quantum (kept_of parts) (get_or (rows 0 parts.funcs) index (record { name = 0; func = d })))
+    (record_bytes parts.quantum (kept_of parts) (get_or (rows 0 parts.funcs) index (record { name = 0; func = d })))
     = stands_each (record_bytes parts.quantum (kept_of parts)) (written parts) (start_of parts 4 + first_record parts) (rows 0 parts.funcs) index (record { name = 0; func = d })
     (records_stand parts) (omega (arith, length-rows 0 parts.funcs)) in
     let is : get_or (rows 0 parts.funcs) index (record { name = 0; func = d }) ≡ row_at parts index d

@@ -1,5 +1,5 @@
 -- Tables that are kept once.
-use Rattle.std.proofs.Common.{◌≡◌, ℕ, zero, suc, ◌+◌, ◌^◌, ◌<◌, ◌≤◌, Bool, true, false, cond, ◌||◌, List, [], ◌∷◌, ◌++◌, length, map, Option, Some, None, inl, inr, refl, sym, ◌∙◌, ap, arith, append_assoc, append-nil, length-append}
+use Rattle.std.proofs.Common.{◌≡◌, ℕ, ◌+◌, ◌^◌, ◌<◌, ◌≤◌, Bool, true, false, ◌||◌, List, [], ◌∷◌, ◌++◌, length, map, Some, None, inl, inr, refl, sym, ◌∙◌, ap, arith, append-nil, length-append}
 use Rattle.std.specs.List.{flat_map, list_any}
 use Rattle.std.specs.Str.{bytes_eq}
 use Rattle.std.specs.Map.{lookup}
@@ -26,7 +26,7 @@ eq_itself xs = nat_list_eq_equiv.refl xs
 -- a table that is kept is there, and what was there stays
 has_push : (tables : List (List ℕ)) (table : List ℕ) → has_table (tables ++ table ∷ []) table ≡ true
 has_push [] table = rw (eq_itself table) refl
-has_push (next ∷ others) table = rw (has_push others table) (elim (bytes_eq table next) as (λ b. (b || true) ≡ true) [ | true ↦ refl | false ↦ refl ])
+has_push (next ∷ others) table = rw (has_push others table) (elim (bytes_eq table next) as (λ b. (b || true) ≡ true) [ true ↦ refl | false ↦ refl ])
 
 has_more : (tables : List (List ℕ)) (table next : List ℕ) → has_table tables table ≡ true → has_table (tables ++ next ∷ []) table ≡ true
 has_more tables table next there =

@@ -1,7 +1,7 @@
 -- What a written table tells of its functions, and that it is a table.
-use Rattle.std.proofs.Common.{◌≡◌, ℕ, zero, suc, ℤ, pos, ◌+◌, ◌-◌, ◌*◌, ◌^◌, ◌<◌, ◌≤◌, ◌⊎◌, inl, inr, Bool, true, false, nat_lt, nat_le, List, [], ◌∷◌, length, take, drop, get_or, slice_index, Option, Some, None, IsTrue, refl, sym, ◌∙◌, ap, arith}
+use Rattle.std.proofs.Common.{◌≡◌, ℕ, zero, suc, pos, ◌+◌, ◌-◌, ◌*◌, ◌^◌, ◌<◌, ◌≤◌, ◌⊎◌, inl, inr, true, nat_le, List, [], ◌∷◌, length, drop, get_or, slice_index, Some, refl, ap, arith}
 use Rattle.std.specs.List.{flat_map}
-use Rattle.std.specs.Int.{w32, cast_unsigned, cast_signed}
+use Rattle.std.specs.Int.{w32, cast_unsigned}
 use Rattle.std.specs.Int.RustNames.{FitsSigned}
 use Rattle.std.proofs.Math.Facts.{Fits-of_z, to_z-of_z}
 use Rattle.std.proofs.lemmas.Bool.{lt-ltb, le-ltb, cases_lt}
@@ -9,7 +9,6 @@ use Rattle.std.proofs.lemmas.Bool.Decides.{nat_tests}
 use Rattle.byte_layout.specs.Stands.{Stands}
 use Rattle.byte_layout.proofs.StandsLemmas.{stands_in, stands_from, stands_within, stands_byte}
 use Rattle.pcvalue.specs.declared.run.Run.{Run}
-use Rattle.pcvalue.specs.declared.answer.Answer.{Answer}
 use Rattle.pcvalue.specs.declared.answer.Answer.TheVariants.{Value, Past}
 use Rattle.pcvalue.specs.Table.{value_of, value_in}
 use Rattle.pcvalue.specs.Writing.{table_bytes, AreRuns}
@@ -17,18 +16,17 @@ use Rattle.pcvalue.proofs.WritingLemmas.{some_table_bytes}
 use Rattle.pcvalue.proofs.ValueLemmas.{values_stand, table_is}
 use Rattle.pclntab.specs.declared.parts.TableParts.{TableParts}
 use Rattle.pclntab.specs.declared.parts.FuncPart.{FuncPart}
-use Rattle.pclntab.specs.Words.{byte_at, u32_at}
-use Rattle.pclntab.specs.Places.{quantum, func_count, entry_offset, record_place, record_size, record_end, name_place, depth_field, file_field, line_field, tables_field, unit_field, flags_field, data_field, args_field}
-use Rattle.pclntab.specs.Texts.{text_at, ends_at}
-use Rattle.pclntab.specs.Table.{IsHeader, HasTables, HasOrder, HasRecord, HasName, IsFunc, IsTable, NamesPcTable, pc_bytes}
-use Rattle.pclntab.specs.Func.{entry_of, name_of, args_of, flags_of, answer_at, depth_at, line_at, file_at, file_name, named_by}
+use Rattle.pclntab.specs.Words.{u32_at}
+use Rattle.pclntab.specs.Places.{quantum, record_place, name_place, depth_field, file_field, line_field, unit_field}
+use Rattle.pclntab.specs.Table.{IsHeader, HasTables, HasOrder, IsFunc, IsTable, NamesPcTable, pc_bytes}
+use Rattle.pclntab.specs.Func.{entry_of, name_of, args_of, flags_of, answer_at, file_name, named_by}
 use Rattle.pclntab.specs.Written.{texts, has_table, all_kept, tables_of, kept_of, stored, offset_of, header_over, tables, names_of, written}
-use Rattle.pclntab.specs.Parts.{AreParts, IsFuncPart, IsFile, to_zero, file_of, TellsPc, TellsFunc, Tells}
+use Rattle.pclntab.specs.Parts.{AreParts, IsFile, to_zero, file_of, TellsPc, Tells}
 use Rattle.pclntab.proofs.StockLemmas.{still_all_kept, all_kept-append, stored_stands}
 use Rattle.pclntab.proofs.FuncLemmas.{has_depth, has_file, has_line}
 use Rattle.pclntab.proofs.LengthLemmas.{length-header, length-funcs_bytes, part_within, words_fit}
 use Rattle.pclntab.proofs.ReadLemmas.{text_read}
-use Rattle.pclntab.proofs.HeaderLemmas.{start_of, part_stands, header_stands, ident_stands, magic_read, start_within, Told, told}
+use Rattle.pclntab.proofs.HeaderLemmas.{start_of, part_stands, header_stands, ident_stands, magic_read, start_within, told}
 use Rattle.pclntab.proofs.RowLemmas.{entry_read, place_read, end_read, name_start, name_read, name_start_within, record_start, field_read, flags_read, data_read, record_within, unit_read, unit_within, file_read}
 
 -- the pc-value tables
@@ -189,8 +187,10 @@ args_told : (parts : TableParts) (index : ℕ) (d : FuncPart) → AreParts parts
 args_told parts index d are inside =
     let fits : FitsSigned w32 (get_or parts.funcs index d).args = (are.funcs index d inside).args in
     let short = Fits-of_z {w = w32} fits in
-    rw (place_is parts index are inside,
-    field_read parts index d 2 (record_start parts index + 8) (cast_unsigned w32 (get_or parts.funcs index d).args) inside (omega arith) refl (omega arith) refl)
+    rw (
+      place_is parts index are inside,
+      field_read parts index d 2 (record_start parts index + 8) (cast_unsigned w32 (get_or parts.funcs index d).args) inside (omega arith) refl (omega arith) refl,
+    )
     (to_z-of_z {w = w32} fits)
 
 flags_told : (parts : TableParts) (index : ℕ) (d : FuncPart) → AreParts parts → index < length parts.funcs

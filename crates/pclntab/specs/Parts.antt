@@ -1,5 +1,5 @@
 -- From which parts a function table can be written, and what it tells of them.
-use Rattle.std.specs.Prelude.{◌≡◌, ◌⊎◌, ℕ, ℤ, pos, negsuc, List, [], ◌+◌, ◌-◌, ◌^◌, ◌<◌, ◌≤◌, All, length, take_while, not, FitsSigned, Option, Some, None, slice_index_or, true}
+use Rattle.std.specs.Prelude.{◌≡◌, ◌⊎◌, ℕ, pos, negsuc, List, [], ◌+◌, ◌-◌, ◌^◌, ◌<◌, ◌≤◌, All, length, take_while, not, FitsSigned, Option, Some, None, slice_index_or, true}
 use Rattle.std.specs.Int.{w32}
 use Rattle.pcvalue.specs.declared.run.Run.{Run}
 use Rattle.pcvalue.specs.declared.answer.Answer.{Answer}
@@ -10,7 +10,7 @@ use Rattle.pclntab.specs.declared.parts.TableParts.{TableParts}
 use Rattle.pclntab.specs.declared.parts.FuncPart.{FuncPart}
 use Rattle.pclntab.specs.Places.{func_count, text_start}
 use Rattle.pclntab.specs.Texts.{is_zero}
-use Rattle.pclntab.specs.Func.{HasPc, entry_of, name_of, args_of, flags_of, depth_at, line_at, file_at}
+use Rattle.pclntab.specs.Func.{entry_of, name_of, args_of, flags_of, depth_at, line_at, file_at}
 use Rattle.pclntab.specs.Written.{written}
 
 -- the number of one of so many files

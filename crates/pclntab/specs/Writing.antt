@@ -1,10 +1,10 @@
 -- What the steps of writing a table know.
 use Rattle.std.specs.Prelude.{ℕ, List, [], ◌∷◌, ◌+◌, ◌*◌, ◌^◌, ◌<◌, length}
-use Rattle.pcvalue.specs.Writing.{AreRuns, table_bytes}
+use Rattle.pcvalue.specs.Writing.{AreRuns}
 use Rattle.pclntab.specs.declared.parts.TableParts.{TableParts}
 use Rattle.pclntab.specs.declared.parts.FuncPart.{FuncPart}
 use Rattle.pclntab.specs.declared.writing.Subtables.{Subtables}
-use Rattle.pclntab.specs.Written.{texts, kept_of, stored, first_record, names_of, offset_of, words}
+use Rattle.pclntab.specs.Written.{texts, kept_of, stored, first_record, names_of}
 
 -- the five tables behind the header, in their order
 abbrev pub five_of : Subtables → List (List ℕ)

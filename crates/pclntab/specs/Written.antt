@@ -5,7 +5,6 @@ use Rattle.std.specs.List.{flat_map, list_any}
 use Rattle.std.specs.Int.{w32, cast_unsigned}
 use Rattle.byteorder.specs.Endian.{little_bytes}
 use Rattle.byte_layout.specs.Joined.{joined, places}
-use Rattle.pcvalue.specs.declared.run.Run.{Run}
 use Rattle.pcvalue.specs.Writing.{table_bytes}
 use Rattle.pclntab.specs.declared.parts.TableParts.{TableParts}
 use Rattle.pclntab.specs.declared.parts.FuncPart.{FuncPart}

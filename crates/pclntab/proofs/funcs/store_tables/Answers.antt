@@ -1,4 +1,4 @@
-use Rattle.std.proofs.Common.{◌≡◌, ap, ◌∙◌, sym}
+use Rattle.std.proofs.Common.{◌≡◌, ap, ◌∙◌}
 use Rattle.pcvalue.specs.Writing.{table_bytes}
 use Rattle.pclntab.specs.Written.{all_kept, kept, offset_of}
 use Rattle.pclntab.specs.Stock.{tables_in}

@@ -1,4 +1,4 @@
-use Rattle.std.proofs.Common.{◌≡◌, List, ◌∷◌, ◌++◌, ◌+◌, ℕ, [], false, ap, sym, ◌∙◌, refl, arith, length, Vec, Global}
+use Rattle.std.proofs.Common.{◌≡◌, List, ◌∷◌, ◌++◌, ◌+◌, ℕ, [], false, ap, sym, ◌∙◌, arith, length, Vec, Global}
 use Rattle.std.specs.List.{flat_map}
 use Rattle.pclntab.specs.Written.{has_table, stored}
 use Rattle.pclntab.specs.Stock.{tables_in, keys_in}

@@ -1,8 +1,6 @@
-use Rattle.std.proofs.Common.{◌≡◌, ◌+◌, ◌∷◌, ◌++◌, [], ℕ, List, true, false, Some, None, ap, sym, ◌∙◌, Vec, Global}
-use Rattle.std.specs.Map.{lookup}
-use Rattle.std.specs.Str.{bytes_eq}
+use Rattle.std.proofs.Common.{◌≡◌, ◌∷◌, ◌++◌, [], ℕ, List, true, false, ap, sym, ◌∙◌, Vec, Global}
 use Rattle.pcvalue.specs.Writing.{table_bytes}
-use Rattle.pclntab.specs.Written.{has_table, kept, offset_of}
+use Rattle.pclntab.specs.Written.{has_table, offset_of}
 use Rattle.pclntab.specs.Stock.{tables_in}
 use Rattle.pclntab.proofs.StockLemmas.{lookup_some, lookup_none, kept_there, kept_new, kept_short, offset_new}
 use Rattle.pclntab.proofs.stock.store.Goals as goal

@@ -1,5 +1,5 @@
-use Rattle.std.proofs.Common.{◌≡◌, [], ◌∷◌, ap, ◌∙◌}
-use Rattle.pclntab.specs.Written.{texts, starts, words, tables, written_over, written}
+use Rattle.std.proofs.Common.{ap, ◌∙◌}
+use Rattle.pclntab.specs.Written.{texts, starts, words, written_over, written}
 use Rattle.pclntab.proofs.LengthLemmas.{words_fit, five_short, five_is, funcs_told}
 use Rattle.pclntab.proofs.writing.write_bytes.Goals as goal
 
