@@ -223,9 +223,15 @@ fn small_part(
     line: i32,
 ) -> Result<FuncPart, Memory>
     ensures { IfOk result (λ part. part ≡ record {
-        name = name.now; entry = entry; args = pos 0; flags = 4; start_line = start_line;
-        depth = record { end = 1; value = pos 0 } ∷ []; file = record { end = 1; value = pos 0 } ∷ [];
-        line = record { end = 1; value = line } ∷ [] }) }
+      name = name.now;
+      entry = entry;
+      args = pos 0;
+      flags = 4;
+      start_line = start_line;
+      depth = record { end = 1; value = pos 0 } ∷ [];
+      file = record { end = 1; value = pos 0 } ∷ [];
+      line = record { end = 1; value = line } ∷ [];
+    }) }
 {
     let none = [Run { end: 1, value: 0 }];
     Ok(FuncPart {
@@ -236,7 +242,13 @@ fn small_part(
         start_line,
         depth: List::new(Vec::from_slice(alloc, &none)?),
         file: List::new(Vec::from_slice(alloc, &none)?),
-        line: List::new(Vec::from_slice(alloc, &[Run { end: 1, value: line }])?),
+        line: List::new(Vec::from_slice(
+            alloc,
+            &[Run {
+                end: 1,
+                value: line,
+            }],
+        )?),
     })
 }
 
@@ -266,10 +278,19 @@ fn equal_pc_tables_stand_once(rt: HostRuntime) -> Result<(), Fail> {
     let written = write(alloc, &parts)?;
     let bytes = written.as_slice();
     assert_eq!(rt; bytes.len(), 228);
-    assert_eq!(rt; &bytes[104..114], [0, 2, 1, 0, 8, 1, 0, 12, 1, 0].as_slice());
+    assert_eq!(rt;
+        &bytes[104..114],
+        [0, 2, 1, 0, 8, 1, 0, 12, 1, 0].as_slice()
+    );
     // The offsets of the depth, file and line tables in both records.
-    assert_eq!(rt; &bytes[156..168], [1, 0, 0, 0, 1, 0, 0, 0, 4, 0, 0, 0].as_slice());
-    assert_eq!(rt; &bytes[200..212], [1, 0, 0, 0, 1, 0, 0, 0, 7, 0, 0, 0].as_slice());
+    assert_eq!(rt;
+        &bytes[156..168],
+        [1, 0, 0, 0, 1, 0, 0, 0, 4, 0, 0, 0].as_slice()
+    );
+    assert_eq!(rt;
+        &bytes[200..212],
+        [1, 0, 0, 0, 1, 0, 0, 0, 7, 0, 0, 0].as_slice()
+    );
     let Ok(table) = Table::read(bytes) else {
         return Err(Fail::from("no table"));
     };

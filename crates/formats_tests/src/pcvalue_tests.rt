@@ -112,13 +112,31 @@ fn long_numbers_and_quanta_are_written(rt: HostRuntime) -> Result<(), Fail> {
     let words = [
         Run { end: 4, value: 0 },
         Run { end: 16, value: -2 },
-        Run { end: 4096, value: 1000 },
+        Run {
+            end: 4096,
+            value: 1000,
+        },
     ];
-    expect_encoded(&rt, alloc, &words, 4, &[2, 1, 3, 3, 0xD4, 0x0F, 0xFC, 0x07, 0])?;
+    expect_encoded(
+        &rt,
+        alloc,
+        &words,
+        4,
+        &[2, 1, 3, 3, 0xD4, 0x0F, 0xFC, 0x07, 0],
+    )?;
     let long = [
-        Run { end: 127, value: 62 },
-        Run { end: 255, value: -1 },
-        Run { end: 16_639, value: 8191 },
+        Run {
+            end: 127,
+            value: 62,
+        },
+        Run {
+            end: 255,
+            value: -1,
+        },
+        Run {
+            end: 16_639,
+            value: 8191,
+        },
     ];
     let want = [0x7E, 0x7F, 0x7D, 0x80, 1, 0x80, 0x80, 1, 0x80, 0x80, 1, 0];
     expect_encoded(&rt, alloc, &long, 1, &want)?;
@@ -126,7 +144,9 @@ fn long_numbers_and_quanta_are_written(rt: HostRuntime) -> Result<(), Fail> {
         end: u32::MAX,
         value: i32::MAX - 1,
     }];
-    let want = [0xFE, 0xFF, 0xFF, 0xFF, 0x0F, 0xFF, 0xFF, 0xFF, 0xFF, 0x0F, 0];
+    let want = [
+        0xFE, 0xFF, 0xFF, 0xFF, 0x0F, 0xFF, 0xFF, 0xFF, 0xFF, 0x0F, 0,
+    ];
     expect_encoded(&rt, alloc, &most, 1, &want)?;
     let least = [Run {
         end: 2,

@@ -36,16 +36,27 @@ worked_run = (record { longer = omega arith; short = omega arith; whole = refl; 
 
 worked_lines_are : AreRuns 1 worked_lines
 worked_lines_are = (
-  record { longer = omega arith; short = omega arith; whole = refl; value = refl; change = refl }, (
-    record { longer = omega arith; short = omega arith; whole = refl; value = refl; change = refl }, apart 4 3 (λ same. omega arith), (
-      record { longer = omega arith; short = omega arith; whole = refl; value = refl; change = refl }, apart 5 4 (λ same. omega arith), (
-        record { longer = omega arith; short = omega arith; whole = refl; value = refl; change = refl }, apart 7 5 (λ same. omega arith), (
-          record { longer = omega arith; short = omega arith; whole = refl; value = refl; change = refl }, apart 8 7 (λ same. omega arith), (
-            record { longer = omega arith; short = omega arith; whole = refl; value = refl; change = refl }, apart 9 8 (λ same. omega arith), tt
-          )
-        )
-      )
-    )
+  record { longer = omega arith; short = omega arith; whole = refl; value = refl; change = refl },
+  (
+    record { longer = omega arith; short = omega arith; whole = refl; value = refl; change = refl },
+    apart 4 3 (λ same. omega arith),
+    (
+      record { longer = omega arith; short = omega arith; whole = refl; value = refl; change = refl },
+      apart 5 4 (λ same. omega arith),
+      (
+        record { longer = omega arith; short = omega arith; whole = refl; value = refl; change = refl },
+        apart 7 5 (λ same. omega arith),
+        (
+          record { longer = omega arith; short = omega arith; whole = refl; value = refl; change = refl },
+          apart 8 7 (λ same. omega arith),
+          (
+            record { longer = omega arith; short = omega arith; whole = refl; value = refl; change = refl },
+            apart 9 8 (λ same. omega arith),
+            tt,
+          ),
+        ),
+      ),
+    ),
   ),
 )
 
@@ -76,13 +87,16 @@ worked_are = record {
 }
 
 small_run : (value : ℕ) → value < 1000 → AreRuns 1 (record { end = 1; value = pos value } ∷ [])
-small_run value small = (record {
-  longer = omega arith;
-  short = omega arith;
-  whole = refl;
-  value = lt-ltb _ _ (omega arith);
-  change = lt-ltb _ _ (omega arith);
-}, tt)
+small_run value small = (
+  record {
+    longer = omega arith;
+    short = omega arith;
+    whole = refl;
+    value = lt-ltb _ _ (omega arith);
+    change = lt-ltb _ _ (omega arith);
+  },
+  tt,
+)
 
 small_func_is : (name : List ℕ) (entry start_line line : ℕ) → entry < 1000 → start_line < 1000 → line < 1000
     → IsFuncPart 1 1 (small_func name entry start_line line)
