@@ -1,5 +1,10 @@
-use pclntab::{Table, TableNo};
-use pcvalue::Answer;
+ghost use Rattle.std.specs.Prelude.{◌≡◌, [], ◌∷◌, pos, IfOk};
+ghost use Rattle.pclntab.specs.Worked as worked;
+
+use goasm_base::{List, Memory, Name};
+use pclntab::{FuncPart, Table, TableNo, TableParts, write};
+use pcvalue::{Answer, Run};
+use std::alloc::Global;
 use std::process::Abort;
 use std::test::Fail;
 
@@ -160,5 +165,140 @@ fn equal_entries_are_kept_apart(rt: HostRuntime) -> Result<(), Fail> {
     assert!(rt; table.find(0x3F_FFFF).is_none());
     assert!(rt; table.find(0x40_0020).is_none());
     assert!(rt; table.find(u64::MAX).is_none());
+    Ok(())
+}
+
+// The parts of the table above.
+fn cas_parts(alloc: Global) -> Result<TableParts, Memory>
+    ensures { IfOk result (λ parts. parts ≡ worked.worked_parts) }
+{
+    let one = [Run { end: 23, value: 0 }];
+    let lines = [
+        Run { end: 5, value: 3 },
+        Run { end: 9, value: 4 },
+        Run { end: 13, value: 5 },
+        Run { end: 17, value: 7 },
+        Run { end: 22, value: 8 },
+        Run { end: 23, value: 9 },
+    ];
+    let func = FuncPart {
+        name: Name::from_slice(alloc, b"main.Cas")?,
+        entry: 0,
+        args: 17,
+        flags: 4,
+        start_line: 2,
+        depth: List::new(Vec::from_slice(alloc, &one)?),
+        file: List::new(Vec::from_slice(alloc, &one)?),
+        line: List::new(Vec::from_slice(alloc, &lines)?),
+    };
+    let mut files = Vec::new(alloc);
+    files.push(Name::from_slice(alloc, b"cas.s")?)?;
+    let mut funcs = Vec::new(alloc);
+    funcs.push(func)?;
+    Ok(TableParts {
+        quantum: 1,
+        text_start: 0x40_0000,
+        text_len: 32,
+        files: List::new(files),
+        funcs: List::new(funcs),
+    })
+}
+
+#[test]
+#[tactic(auto, using(pclntab::proofs::WorkedLemmas::worked_are))]
+fn a_table_is_written_byte_for_byte(rt: HostRuntime) -> Result<(), Fail> {
+    let alloc = rt.alloc();
+    let parts = cas_parts(alloc)?;
+    let bytes = write(alloc, &parts)?;
+    assert_eq!(rt; bytes.as_slice(), CAS.as_slice());
+    Ok(())
+}
+
+// A function of one byte.
+fn small_part(
+    alloc: Global,
+    name: &[u8],
+    entry: u32,
+    start_line: i32,
+    line: i32,
+) -> Result<FuncPart, Memory>
+    ensures { IfOk result (λ part. part ≡ record {
+      name = name.now;
+      entry = entry;
+      args = pos 0;
+      flags = 4;
+      start_line = start_line;
+      depth = record { end = 1; value = pos 0 } ∷ [];
+      file = record { end = 1; value = pos 0 } ∷ [];
+      line = record { end = 1; value = line } ∷ [];
+    }) }
+{
+    let none = [Run { end: 1, value: 0 }];
+    Ok(FuncPart {
+        name: Name::from_slice(alloc, name)?,
+        entry,
+        args: 0,
+        flags: 4,
+        start_line,
+        depth: List::new(Vec::from_slice(alloc, &none)?),
+        file: List::new(Vec::from_slice(alloc, &none)?),
+        line: List::new(Vec::from_slice(
+            alloc,
+            &[Run {
+                end: 1,
+                value: line,
+            }],
+        )?),
+    })
+}
+
+// Two functions, of which the depth and file tables are equal.
+fn shared_parts(alloc: Global) -> Result<TableParts, Memory>
+    ensures { IfOk result (λ parts. parts ≡ worked.shared_parts) }
+{
+    let mut files = Vec::new(alloc);
+    files.push(Name::from_slice(alloc, b"ab.s")?)?;
+    let mut funcs = Vec::new(alloc);
+    funcs.push(small_part(alloc, b"main.a", 0, 2, 3)?)?;
+    funcs.push(small_part(alloc, b"main.b", 16, 4, 5)?)?;
+    Ok(TableParts {
+        quantum: 1,
+        text_start: 0x40_0000,
+        text_len: 32,
+        files: List::new(files),
+        funcs: List::new(funcs),
+    })
+}
+
+#[test]
+#[tactic(auto, using(pclntab::proofs::WorkedLemmas::shared_are))]
+fn equal_pc_tables_stand_once(rt: HostRuntime) -> Result<(), Fail> {
+    let alloc = rt.alloc();
+    let parts = shared_parts(alloc)?;
+    let written = write(alloc, &parts)?;
+    let bytes = written.as_slice();
+    assert_eq!(rt; bytes.len(), 228);
+    assert_eq!(rt;
+        &bytes[104..114],
+        [0, 2, 1, 0, 8, 1, 0, 12, 1, 0].as_slice()
+    );
+    // The offsets of the depth, file and line tables in both records.
+    assert_eq!(rt;
+        &bytes[156..168],
+        [1, 0, 0, 0, 1, 0, 0, 0, 4, 0, 0, 0].as_slice()
+    );
+    assert_eq!(rt;
+        &bytes[200..212],
+        [1, 0, 0, 0, 1, 0, 0, 0, 7, 0, 0, 0].as_slice()
+    );
+    let Ok(table) = Table::read(bytes) else {
+        return Err(Fail::from("no table"));
+    };
+    let func = table.find(0x40_0010).ok_or("no function")?;
+    assert_eq!(rt; func.name(), b"main.b".as_slice());
+    assert_eq!(rt; func.line(0x40_0010), Answer::Value(5));
+    assert_eq!(rt; func.depth(0x40_0010), Answer::Value(0));
+    assert_eq!(rt; func.file(0x40_0010).unwrap_or(b"?"), b"ab.s".as_slice());
+    assert_eq!(rt; func.line(0x40_0011), Answer::Past);
     Ok(())
 }

@@ -2,4 +2,12 @@ mod TextLemmas
 mod PcLemmas
 mod RangeLemmas
 mod SearchLemmas
+mod StockLemmas
+mod FuncLemmas
+mod LengthLemmas
+mod ReadLemmas
+mod HeaderLemmas
+mod RowLemmas
+mod TellLemmas
+pub mod WorkedLemmas
 mod Examples

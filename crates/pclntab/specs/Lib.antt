@@ -5,4 +5,8 @@ pub mod Table
 pub mod Faults
 pub mod Func
 pub mod Ready
+pub mod Written
+pub mod Parts
+pub mod Stock
+pub mod Writing
 pub mod Worked

@@ -4,13 +4,19 @@
 
 mod fault;
 mod func;
+mod funcs;
 mod judge;
 mod names;
+mod parts;
 mod pc_tables;
 mod places;
+mod stock;
 mod table;
 mod words;
+mod writing;
 
 pub use fault::TableNo;
 pub use func::Func;
+pub use parts::{FuncPart, TableParts};
 pub use table::Table;
+pub use writing::write;

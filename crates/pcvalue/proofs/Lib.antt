@@ -1,6 +1,6 @@
 mod TableLemmas
-mod ValueLemmas
-mod WritingLemmas
-mod LeastLemmas
+pub mod ValueLemmas
+pub mod WritingLemmas
+pub mod LeastLemmas
 mod PushLemmas
 mod Examples

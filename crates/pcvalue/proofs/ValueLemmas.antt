@@ -5,7 +5,7 @@ use Rattle.pcvalue.specs.declared.run.Run.{Run}
 use Rattle.pcvalue.specs.declared.answer.Answer.TheVariants.{Value}
 use Rattle.pcvalue.specs.Varint.{varint}
 use Rattle.pcvalue.specs.Runs.{Point, Reading, Another, Finished, Fault, Runs, zigzag, fits_i32, or_fault, run_over, run_by, next_run, runs_from, runs_within, runs_of, start}
-use Rattle.pcvalue.specs.Table.{value_of, answer_of, runs_at, value_in, HasValue}
+use Rattle.pcvalue.specs.Table.{value_of, answer_of, runs_at, value_in, is_pc_table, IsPcTable, HasValue}
 use Rattle.pcvalue.specs.Writing.{table_bytes, AreRuns}
 use Rattle.pcvalue.proofs.TableLemmas.{or_fault_another, guarded, unfinished}
 use Rattle.pcvalue.proofs.WritingLemmas.{table_stands}
@@ -126,3 +126,10 @@ pub values_stand : (quantum : ℕ) (runs : List Run) (table more : List ℕ) (of
 values_stand quantum runs table more offset place are stands some =
     looked_up table offset quantum place some
     ∙ ap (answer_of place) (table_stands quantum runs table more offset are stands)
+
+-- and it is a table
+pub table_is : (quantum : ℕ) (runs : List Run) (table more : List ℕ) (offset : ℕ) → AreRuns quantum runs
+    → drop offset table ≡ table_bytes quantum runs ++ more → 0 < offset → IsPcTable table offset quantum
+unfolding is_pc_table
+table_is quantum runs table more offset are stands some =
+    rw (present offset some) (ap (λ found. found.whole) (table_stands quantum runs table more offset are stands))

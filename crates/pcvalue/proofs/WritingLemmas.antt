@@ -203,3 +203,9 @@ pub table_stands : (quantum : ℕ) (runs : List Run) (table more : List ℕ) (of
     → drop offset table ≡ table_bytes quantum runs ++ more
     → runs_at table offset quantum ≡ (record { runs = runs; whole = true })
 table_stands quantum runs table more offset are stands = rw stands (table_back quantum runs more are)
+
+pub some_table_bytes : (quantum : ℕ) (runs : List Run) → 0 < length (table_bytes quantum runs)
+unfolding table_bytes
+some_table_bytes quantum runs =
+    let more : length runs < length (bytes_behind quantum no_run runs) = enough quantum no_run runs in
+    omega arith
