@@ -23,7 +23,7 @@ use Rattle.elf_image.proofs.PartLemmas.{entry_fits, length_parts}
 use Rattle.elf_image.proofs.StageLemmas.{section_size_meets}
 use Rattle.elf_image.proofs.WrittenRowLemmas.{Allow, written_rows, first_rows, rest_rows}
 
-machine_fits : (machine : ℕ) → meets Machine machine ≡ true → machine < 65536
+pub machine_fits : (machine : ℕ) → meets Machine machine ≡ true → machine < 65536
 machine_fits machine is =
     elim (or_cases (nat_eq machine 62 || nat_eq machine 183) (nat_eq machine 243) is) [
       | inl known ↦ elim (or_cases (nat_eq machine 62) (nat_eq machine 183) known) [
