@@ -48,13 +48,16 @@ sizes_of parts = record {
   strings = length (string_bytes parts.symbols);
 }
 
--- the header and the three program headers
+-- the header and the three program headers, of a machine and an entry
+abbrev pub front_table : ℕ → ℕ → Sizes → List Row
+front_table machine entry sizes =
+    ident_rows ++ header_rows (Is machine) (Is entry) (Is (sections_offset sizes))
+    ++ program_rows text_flags text_offset (Is sizes.text) (Is sizes.text)
+    ++ program_rows table_flags (table_offset sizes) (Is sizes.table) (Is sizes.table)
+    ++ program_rows values_flags (values_offset sizes) (Is sizes.values) (Is sizes.values)
+
 abbrev pub front_rows : ImageParts → List Row
-front_rows parts =
-    ident_rows ++ header_rows (Is parts.machine) (Is parts.entry) (Is (sections_offset (sizes_of parts)))
-    ++ program_rows text_flags text_offset (Is (sizes_of parts).text) (Is (sizes_of parts).text)
-    ++ program_rows table_flags (table_offset (sizes_of parts)) (Is (sizes_of parts).table) (Is (sizes_of parts).table)
-    ++ program_rows values_flags (values_offset (sizes_of parts)) (Is (sizes_of parts).values) (Is (sizes_of parts).values)
+front_rows parts = front_table parts.machine parts.entry (sizes_of parts)
 
 -- the section headers
 abbrev pub section_table : Sizes → ℕ → List Row
