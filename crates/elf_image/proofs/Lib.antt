@@ -13,3 +13,5 @@ pub mod GroupLemmas
 pub mod NameLemmas
 pub mod PartLemmas
 pub mod FoundLemmas
+pub mod LawLemmas
+pub mod WriteLemmas

@@ -48,23 +48,30 @@ sizes_of parts = record {
   strings = length (string_bytes parts.symbols);
 }
 
--- the header and the three program headers
+-- the header and the three program headers, of a machine and an entry
+abbrev pub front_table : ℕ → ℕ → Sizes → List Row
+front_table machine entry sizes =
+    ident_rows ++ header_rows (Is machine) (Is entry) (Is (sections_offset sizes))
+    ++ program_rows text_flags text_offset (Is sizes.text) (Is sizes.text)
+    ++ program_rows table_flags (table_offset sizes) (Is sizes.table) (Is sizes.table)
+    ++ program_rows values_flags (values_offset sizes) (Is sizes.values) (Is sizes.values)
+
 abbrev pub front_rows : ImageParts → List Row
-front_rows parts =
-    ident_rows ++ header_rows (Is parts.machine) (Is parts.entry) (Is (sections_offset (sizes_of parts)))
-    ++ program_rows text_flags text_offset (Is (sizes_of parts).text) (Is (sizes_of parts).text)
-    ++ program_rows table_flags (table_offset (sizes_of parts)) (Is (sizes_of parts).table) (Is (sizes_of parts).table)
-    ++ program_rows values_flags (values_offset (sizes_of parts)) (Is (sizes_of parts).values) (Is (sizes_of parts).values)
+front_rows parts = front_table parts.machine parts.entry (sizes_of parts)
+
+-- the section headers
+abbrev pub section_table : Sizes → ℕ → List Row
+section_table sizes locals =
+    section_rows null_section
+    ++ section_rows (text_section text_offset sizes.text)
+    ++ section_rows (table_section (table_offset sizes) sizes.table)
+    ++ section_rows (values_section (values_offset sizes) sizes.values)
+    ++ section_rows (symbols_section (symbols_offset sizes) (Is sizes.symbols) (Is locals))
+    ++ section_rows (strings_section (strings_offset sizes) (Is sizes.strings))
+    ++ section_rows (labels_section (labels_offset sizes) (Is labels_size))
 
 abbrev pub all_sections : ImageParts → List Row
-all_sections parts =
-    section_rows null_section
-    ++ section_rows (text_section text_offset (sizes_of parts).text)
-    ++ section_rows (table_section (table_offset (sizes_of parts)) (sizes_of parts).table)
-    ++ section_rows (values_section (values_offset (sizes_of parts)) (sizes_of parts).values)
-    ++ section_rows (symbols_section (symbols_offset (sizes_of parts)) (Is (sizes_of parts).symbols) (Is (locals_of parts.symbols)))
-    ++ section_rows (strings_section (strings_offset (sizes_of parts)) (Is (sizes_of parts).strings))
-    ++ section_rows (labels_section (labels_offset (sizes_of parts)) (Is labels_size))
+all_sections parts = section_table (sizes_of parts) (locals_of parts.symbols)
 
 -- the headers, the three parts at multiples of 4096, and what describes them at multiples of 8
 unfoldable pub image_bytes : ImageParts → List ℕ

@@ -36,6 +36,14 @@ pub const VALUES_HEADER: usize = 176;
 /// The names of the sections, each behind a zero byte.
 pub const LABELS: &[u8] = b"\0.text\0.gopclntab\0.data\0.symtab\0.strtab\0.shstrtab\0";
 
+/// The same bytes, by their definition.
+#[tactic(auto, unfolding(crate::specs::Layout::labels))]
+pub fn labels() -> &'static [u8]
+    ensures { result.now ≡ spec.labels }
+{
+    LABELS
+}
+
 /// The sizes of an image's parts in bytes.
 #[derive(Clone, Copy)]
 pub struct Sizes {

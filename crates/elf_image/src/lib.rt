@@ -13,7 +13,10 @@ mod parts;
 mod rows;
 mod symbol_table;
 mod symbols;
+mod writer;
+mod write_symbols;
 
 pub use fault::ImageNo;
 pub use image::{Image, view};
 pub use parts::{ImageParts, SymbolPart};
+pub use writer::write;
