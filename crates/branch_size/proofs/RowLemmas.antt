@@ -1,6 +1,5 @@
 -- The rows of a function's lines.
-use Rattle.std.proofs.Common.{◌≡◌, ℕ, ◌+◌, ◌<◌, ◌≤◌, List, [], ◌∷◌, ◌++◌, Option, Some, None, length, get_or, take, map, true, false, refl, sym, ◌∙◌, ap, subst, inl, inr, arith}
-use Rattle.std.specs.Prelude.{All}
+use Rattle.std.proofs.Common.{◌≡◌, ℕ, ◌+◌, ◌<◌, List, [], ◌∷◌, ◌++◌, Option, Some, None, length, get_or, take, map, true, false, refl, sym, ◌∙◌, ap, subst, inl, inr, arith}
 use Rattle.std.specs.List.{slice_get}
 use Rattle.std.specs.Option.{option_map}
 use Rattle.std.proofs.lemmas.List.{take_more, map-append, length-map}
@@ -15,8 +14,7 @@ use Rattle.asm_target.specs.declared.refer.To.{To}
 use Rattle.asm_target.specs.declared.refer.To.TheVariants.{Stmt, Symbol, Entry, Grow, Block, Past}
 use Rattle.asm_target.specs.Aiming.{Aiming, IsPickable}
 use Rattle.asm_target.specs.InstructionSet.{InstructionSet}
-use Rattle.branch_size.specs.declared.rows.Row.{Row}
-use Rattle.branch_size.specs.Goals.{goal_of, goal_to, goal_part, line_of, is_outside, picked, HasGoal, IsBody}
+use Rattle.branch_size.specs.Goals.{goal_to, goal_part, line_of, is_outside, picked, HasGoal, IsBody}
 use Rattle.branch_size.specs.Rows.{row_of, rows_of, IsRow, AreRows}
 
 -- one more line
@@ -31,9 +29,9 @@ map_more f xs i x is =
 pub rows_more : {X Y : Type 0} (f : X → Y) (xs : List X) (i : ℕ) (row : Y) → i < length xs
     → ((x : X) → slice_get xs i ≡ Some x → row ≡ f x) → map f (take (i + 1) xs) ≡ map f (take i xs) ++ row ∷ []
 rows_more f xs i row within is = elim (slice_get_cases xs i).1 [
-    inl some ↦ map_more f xs i some.0 some.2 ∙ ap (λ y. map f (take i xs) ++ y ∷ []) (sym (is some.0 some.2))
+  | inl some ↦ map_more f xs i some.0 some.2 ∙ ap (λ y. map f (take i xs) ++ y ∷ []) (sym (is some.0 some.2))
   | inr none ↦ let past = none.0 in absurd (omega arith)
-  ]
+]
 
 some_same : {X : Type 0} {x y : X} → Some x ≡ Some y → x ≡ y
 some_same h = cc
@@ -81,29 +79,29 @@ module _ {Instr : Type 0} (guard : Guard Instr) (code : List (Line Instr)) where
       short = refl;
       long = refl;
       goal = λ goal goes.
-        let found = refer_inside fits aiming line pick has line.refer refl goal goes in
-        let whole : length (rows_of set aiming guard code) ≡ length code = length-map code (row_of set aiming guard code) in
-        let below = found.0 in
-        (omega arith, found.1);
+          let found = refer_inside fits aiming line pick has line.refer refl goal goes in
+          let whole : length (rows_of set aiming guard code) ≡ length code = length-map code (row_of set aiming guard code) in
+          let below = found.0 in
+          (omega arith, found.1);
     }
 
     -- the rows of a body are right
     pub rows_right : IsBody fits aiming guard code → AreRows set fits aiming (rows_of set aiming guard code)
     rows_right body number row is = elim (slice_get_cases code number).1 [
-        inl some ↦
+      | inl some ↦
           let line = some.0 in
           let here : get_or code number line ≡ line = some.3 in
           let pick : IsPickable fits aiming (picked line)
-            = subst (λ item. IsPickable fits aiming (picked item)) here
-              (All-get_or (λ item. IsPickable fits aiming (picked item)) code number line some.1 body.pickable) in
+          = subst (λ item. IsPickable fits aiming (picked item)) here
+          (All-get_or (λ item. IsPickable fits aiming (picked item)) code number line some.1 body.pickable) in
           let has : HasGoal guard code line
-            = subst (HasGoal guard code) here (All-get_or (HasGoal guard code) code number line some.1 body.goals) in
+          = subst (HasGoal guard code) here (All-get_or (HasGoal guard code) code number line some.1 body.goals) in
           let made : Some (row_of set aiming guard code line) ≡ Some row
-            = ap (option_map (row_of set aiming guard code)) (sym some.2) ∙ sym (slice_get-map (row_of set aiming guard code) code number) ∙ is in
+          = ap (option_map (row_of set aiming guard code)) (sym some.2) ∙ sym (slice_get-map (row_of set aiming guard code) code number) ∙ is in
           let same : row_of set aiming guard code line ≡ row = some_same made in
           subst (IsRow set fits aiming (length (rows_of set aiming guard code))) same (row_right line pick has)
       | inr none ↦
           let nothing : None ≡ Some row
-            = ap (option_map (row_of set aiming guard code)) (sym none.1) ∙ sym (slice_get-map (row_of set aiming guard code) code number) ∙ is in
+          = ap (option_map (row_of set aiming guard code)) (sym none.1) ∙ sym (slice_get-map (row_of set aiming guard code) code number) ∙ is in
           absurd (none_some nothing)
-      ]
+    ]

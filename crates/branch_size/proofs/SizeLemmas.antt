@@ -1,5 +1,5 @@
 -- What branch relaxation answers, said of the function.
-use Rattle.std.proofs.Common.{◌≡◌, ℕ, ◌<◌, ◌≤◌, List, Some, length, refl, sym, ◌∙◌, ap, subst, inl, inr, arith}
+use Rattle.std.proofs.Common.{◌≡◌, ℕ, ◌<◌, List, Some, length, subst, inl, inr, arith}
 use Rattle.std.specs.List.{slice_get}
 use Rattle.std.proofs.lemmas.List.{length-map}
 use Rattle.std.proofs.lemmas.Option.{slice_get_cases}
@@ -39,14 +39,14 @@ module _ {Instr : Type 0} (set : InstructionSet Instr) (fits : Instr → Type 0)
       → ((item : Line Instr) → slice_get code line ≡ Some item → item.pos ≡ pos)
       → IsOutOfReach (branches_of set fits aiming quantum guard code) code pos far
   out_of_reach line far pos lost is = elim (slice_get_cases code line).1 [
-      inl some ↦ record {
-        form = lost.0;
-        least = lost.1;
-        line = line;
-        lost = lost.2;
-        item = some.0;
-        here = some.2;
-        at = is some.0 some.2;
-      }
+    | inl some ↦ record {
+      form = lost.0;
+      least = lost.1;
+      line = line;
+      lost = lost.2;
+      item = some.0;
+      here = some.2;
+      at = is some.0 some.2;
+    }
     | inr none ↦ let past = none.0 in let within = lost_line line far lost in absurd (omega arith)
-    ]
+  ]

@@ -1,12 +1,12 @@
 -- A function's lines are as branch relaxation wants them.
 use Rattle.std.specs.Prelude.{pos, ◌-ℤ◌, ◌≤ℤ◌, All}
-use Rattle.std.specs.List.{slice_get, flat_map}
-use Rattle.std.proofs.Common.{◌≡◌, ◌⊎◌, ◌↔◌, ℕ, ℤ, zero, suc, List, [], ◌∷◌, ◌++◌, ◌+◌, ◌-◌, ◌%◌, ◌^◌, ◌<◌, ◌≤◌, true, length, Option, Some, None, refl, sym, ◌∙◌, ap, subst, inl, inr, arith, rules, length-append}
+use Rattle.std.specs.List.{slice_get}
+use Rattle.std.proofs.Common.{◌≡◌, ◌⊎◌, ℕ, ℤ, zero, suc, List, [], ◌∷◌, ◌+◌, ◌%◌, ◌<◌, ◌≤◌, true, length, Option, Some, None, refl, sym, ◌∙◌, ap, subst, inl, inr, arith, length-append}
 use Rattle.std.proofs.lemmas.Int.{ints}
 use Rattle.std.proofs.lemmas.List.Elements.{All-head, All-tail}
 use Rattle.machine_effect.specs.declared.flow.Shape.{Shape}
 use Rattle.asm_target.specs.Aiming.{Aiming, CanReach, HaveForms, HaveReach, HasReach, bytes_of}
-use Rattle.asm_target.specs.Architecture.{Architecture, IsArchitecture}
+use Rattle.asm_target.specs.Architecture.{IsArchitecture}
 use Rattle.asm_target.specs.InstructionSet.{InstructionSet}
 use Rattle.asm_target.specs.Laws.{HasLengths}
 use Rattle.least_forms.specs.Laws.{IsLawful, IsPlaced, IsAsFar}
@@ -101,7 +101,7 @@ module _ {Instr : Type 0} (set : InstructionSet Instr) (fits : Instr → Type 0)
       let directed : aiming.is_directed one ≡ true = formed.short.2 ∙ (is.goal own goes).1 in
       let P : List Instr → Type 0 = λ form. Reaches set fits aiming form place goal in
       subst P (sym alone) (one_nearer one (laws.reaches one fit directed) place goal from to placed origin far
-        (subst (λ form. Reaches set fits aiming form from to) alone reaches))
+      (subst (λ form. Reaches set fits aiming form from to) alone reaches))
 
   pub lawful_rows : (rows : List (Row Instr)) → AreRows set fits aiming rows → IsLawful (problem_of set fits aiming quantum rows)
   unfolding problem_of
@@ -111,5 +111,5 @@ module _ {Instr : Type 0} (set : InstructionSet Instr) (fits : Instr → Type 0)
     grows = λ line. longer (length rows) (slice_get rows line) (right line);
     goals = λ line goal within goes. inside (length rows) (slice_get rows line) (right line) goal goes;
     nearer = λ line own place goal from to within goes placed origin far reaches.
-      row_nearer (length rows) (slice_get rows line) (right line) own place goal from to goes placed origin far reaches;
+        row_nearer (length rows) (slice_get rows line) (right line) own place goal from to goes placed origin far reaches;
   }

@@ -1,5 +1,5 @@
 -- The sizes of a function.
-use Rattle.std.specs.Prelude.{◌≡◌, ℕ, ◌<◌, List, length, Option, Some, slice_index}
+use Rattle.std.specs.Prelude.{◌≡◌, ℕ, ◌<◌, List, length, Some, slice_index}
 use Rattle.std.specs.List.{slice_get}
 use Rattle.asm_target.specs.declared.body.Line.{Line}
 use Rattle.asm_target.specs.declared.frame.Guard.{Guard}

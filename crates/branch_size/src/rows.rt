@@ -24,7 +24,10 @@ pub struct Row<I> {
 }
 
 /// The rows of a function's lines.
-pub fn make_rows<T: Target>(alloc: Global, body: &Body<T::Instr>) -> Result<Vec<Row<T::Instr>>, Memory>
+pub fn make_rows<T: Target>(
+    alloc: Global,
+    body: &Body<T::Instr>,
+) -> Result<Vec<Row<T::Instr>>, Memory>
     requires { IsFrame T.MACHINE body.now.frame }
     ensures { IfOk result (λ rows.
         rows.items ≡ rows_of T.instructions T.aiming (T.check body.now.frame) body.now.code) }

@@ -41,7 +41,10 @@ pub fn size<T: Target>(alloc: Global, body: &Body<T::Instr>) -> Result<Sizes, Si
     };
     match least_sizes(alloc, &code) {
         Ok(sizes) => Ok(sizes),
-        Err(FormsNo::Lost(line, distance)) => Err(SizeNo::B1(pos_of(body, line), u64::from(distance))),
+        Err(FormsNo::Lost(line, distance)) => Err(SizeNo::B1(
+            pos_of(body, line),
+            u64::from(distance),
+        )),
         Err(FormsNo::Memory) => Err(SizeNo::Memory),
     }
 }

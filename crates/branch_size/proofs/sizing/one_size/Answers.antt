@@ -1,4 +1,4 @@
-use Rattle.std.proofs.Common.{rules, arith}
+use Rattle.std.proofs.Common.{arith}
 use Rattle.least_forms.specs.Problem.{at}
 use Rattle.least_forms.proofs.LeastLemmas.{one_least, not_both}
 use Rattle.branch_size.specs.Lawful.{lawful_rows, quantum_kinds}
@@ -25,9 +25,9 @@ returns-clause-not_both g c = λ sizes pos distance sized lost.
     let code = c.args.body.now.code in
     let p = branches_of set fits aiming g.T.Processor.QUANTUM guard code in
     let lawful = lawful_rows set fits aiming g.T.Processor.QUANTUM (record {
-        quantum_kind = quantum_kinds g.T.Processor.MACHINE g.T.Processor.QUANTUM g.T.Processor.SHAPE g.T.Processor.GROWTH g.met.T.Processor.architecture;
-        lengths = g.met.T.Processor.lengths;
-        formed = g.met.T.Target.formed;
-        reaches = g.met.T.Target.reaches;
-      }) (rows_of set aiming guard code) (rows_right guard code set fits aiming c.requires.body) in
+      quantum_kind = quantum_kinds g.T.Processor.MACHINE g.T.Processor.QUANTUM g.T.Processor.SHAPE g.T.Processor.GROWTH g.met.T.Processor.architecture;
+      lengths = g.met.T.Processor.lengths;
+      formed = g.met.T.Target.formed;
+      reaches = g.met.T.Target.reaches;
+    }) (rows_of set aiming guard code) (rows_right guard code set fits aiming c.requires.body) in
     not_both p lawful (at sizes.forms) lost.form sized.least lost.least sized.reaches lost.line distance lost.lost

@@ -1,4 +1,4 @@
-use Rattle.std.proofs.Common.{◌≡◌, Err, rules, arith, sym, ap, subst}
+use Rattle.std.proofs.Common.{◌≡◌, Err, sym, ap, subst}
 use Rattle.branch_size.specs.Rows.{AreRows}
 use Rattle.branch_size.specs.Sizing.{IsOutOfReach, branches_of}
 use Rattle.branch_size.proofs.RowLemmas.{rows_right}
@@ -19,7 +19,7 @@ pos_of-requires g c =
     lost_line g.T.Processor.instructions g.T.Processor.fits g.T.Target.aiming g.T.Processor.QUANTUM guard code
     c.in-Err-Lost.line c.in-Err-Lost.distance
     (same_lost g.T.Processor.instructions g.T.Processor.fits g.T.Target.aiming g.T.Processor.QUANTUM guard code
-      c.in_ok-make_rows.field-0.items c.in_ok-make_rows.ensures c.in-Err-Lost.line c.in-Err-Lost.distance lost)
+    c.in_ok-make_rows.field-0.items c.in_ok-make_rows.ensures c.in-Err-Lost.line c.in-Err-Lost.distance lost)
 
 pub returns-in-Err-Lost-clause-out_of_reach : goal.returns-in-Err-Lost-clause-out_of_reach
 returns-in-Err-Lost-clause-out_of_reach g c = λ pos distance same.
@@ -27,10 +27,10 @@ returns-in-Err-Lost-clause-out_of_reach g c = λ pos distance same.
     let code = c.args.body.now.code in
     let lost = c.in-Err-Lost.ensures.lost c.in-Err-Lost.line c.in-Err-Lost.distance (ap Err c.in-Err-Lost.field-0-is) in
     let found = out_of_reach g.T.Processor.instructions g.T.Processor.fits g.T.Target.aiming g.T.Processor.QUANTUM guard code
-      c.in-Err-Lost.line c.in-Err-Lost.distance c.pos_of.result
-      (same_lost g.T.Processor.instructions g.T.Processor.fits g.T.Target.aiming g.T.Processor.QUANTUM guard code
-        c.in_ok-make_rows.field-0.items c.in_ok-make_rows.ensures c.in-Err-Lost.line c.in-Err-Lost.distance lost)
-      c.pos_of.ensures in
+    c.in-Err-Lost.line c.in-Err-Lost.distance c.pos_of.result
+    (same_lost g.T.Processor.instructions g.T.Processor.fits g.T.Target.aiming g.T.Processor.QUANTUM guard code
+    c.in_ok-make_rows.field-0.items c.in_ok-make_rows.ensures c.in-Err-Lost.line c.in-Err-Lost.distance lost)
+    c.pos_of.ensures in
     let at : c.pos_of.result ≡ pos = cc in
     let far : c.in-Err-Lost.distance ≡ distance = cc in
     let p = branches_of g.T.Processor.instructions g.T.Processor.fits g.T.Target.aiming g.T.Processor.QUANTUM guard code in
