@@ -1,0 +1,4 @@
+pub mod FormLemmas
+pub mod FirstLemmas
+pub mod RowLemmas
+pub mod SizeLemmas

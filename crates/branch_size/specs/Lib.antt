@@ -1,0 +1,5 @@
+pub mod Goals
+pub mod Tables
+pub mod Rows
+pub mod Sizing
+pub mod Lawful

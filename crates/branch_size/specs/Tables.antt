@@ -1,0 +1,13 @@
+-- The tables by which references are followed.
+use Rattle.std.specs.Prelude.{◌≡◌, ℕ, ◌+◌, List, length, position}
+use Rattle.std.specs.List.{slice_get}
+use Rattle.asm_target.specs.declared.body.Line.{Line}
+use Rattle.asm_target.specs.declared.frame.Guard.{Guard}
+use Rattle.branch_size.specs.declared.goals.Goals.{Goals}
+use Rattle.branch_size.specs.Goals.{block_of, stands_from}
+
+-- the table has the lines of the function's references
+pub record HasGoals {Instr : Type 0} (guard : Guard Instr) (code : List (Line Instr)) (goals : Goals) : Type 0 where
+  pub firsts : (number : ℕ) → slice_get goals.firsts.items number ≡ position (stands_from number) code
+  pub block : goals.block ≡ block_of guard (length code)
+  pub past : goals.past ≡ block_of guard (length code) + length guard.block
