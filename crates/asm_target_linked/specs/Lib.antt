@@ -1,3 +1,7 @@
 pub mod Instr
 pub mod Reading
 pub mod Laws
+pub mod Forms
+pub mod Frames
+pub mod Selecting
+pub mod FormLaws
