@@ -137,7 +137,7 @@ aimed_near held d (Far call e) same = absurd (cc)
 aimed_near held d (Plain op) same = absurd (cc)
 aimed_near held d (Frame op bytes) same = absurd (cc)
 
-aimed_far : (call : Bool) (d : ℤ) (j : Instr) → undirected j ≡ undirected (Far call d) → (e : ℤ) × (j ≡ Far call e)
+pub aimed_far : (call : Bool) (d : ℤ) (j : Instr) → undirected j ≡ undirected (Far call d) → (e : ℤ) × (j ≡ Far call e)
 aimed_far call d (Far other e) same = (let equal : other ≡ call = cc in (e, ap (λ (b : Bool). Far b e) equal))
 aimed_far call d (Near held e) same = absurd (cc)
 aimed_far call d (Plain op) same = absurd (cc)

@@ -5,3 +5,4 @@ pub mod Forms
 pub mod Frames
 pub mod Selecting
 pub mod FormLaws
+pub mod FrameLaws
