@@ -1,0 +1,155 @@
+ghost use Rattle.std.specs.Prelude.{◌≡◌, IfOk};
+ghost use Rattle.asm_target_linked.specs.Instr as spec;
+
+use crate::decode::decode;
+use crate::instr::Instr;
+use crate::make::{cond, far_next, frame_effect, goal, going, plain_effect};
+use arrayvec::ArrayVec;
+use asm_target::{Processor, Spelled, begins_with};
+use goasm_base::{Bytes, Memory, Text};
+use machine_effect::{Effect, Next, Shape};
+use std::alloc::Global;
+
+/// The target of these instructions. It takes the place of riscv64, whose registers of calls it has: 2 is the stack pointer and
+/// 1 the link register, which also keeps the return address when the stack grows.
+pub struct Linked;
+
+impl Processor for Linked {
+    ghost use Rattle.asm_target_linked.specs.Instr.{linked, Fits};
+    ghost use Rattle.asm_target.specs.Architecture.{riscv64};
+    ghost use Rattle.asm_target_linked.specs.Laws as proofs;
+
+    type Instr = Instr;
+
+    const MACHINE: u16 = 243;
+
+    const QUANTUM: u8 = 4;
+
+    const SHAPE: Shape = Shape {
+        sp: 2,
+        link: Some(1),
+    };
+
+    const GROWTH: Option<u8> = Some(1);
+
+    ghost MACHINE = { 243 };
+
+    ghost QUANTUM = { 4 };
+
+    ghost SHAPE = { riscv64.shape };
+
+    ghost GROWTH = { riscv64.growth };
+
+    ghost instructions = { linked };
+
+    ghost fits = { Fits };
+
+    ghost architecture = { proofs.architecture };
+
+    ghost lengths = { proofs.lengths };
+
+    ghost prefix_free = { proofs.prefix_free };
+
+    ghost no_padding = { proofs.no_padding };
+
+    ghost small_moves = { proofs.small_moves };
+
+    ghost bounded = { proofs.bounded };
+
+    ghost only_goes = { proofs.only_goes };
+
+    ghost links = { proofs.links };
+
+    fn spell(instr: &Instr) -> Spelled {
+        match *instr {
+            Instr::Plain(op) => short(op.code(), 0),
+            Instr::Frame { op, bytes } => long(op.code(), bytes),
+            Instr::Near { held, distance } => {
+                short(if held { 16 } else { 17 }, distance.cast_unsigned())
+            }
+            Instr::Far { call, distance } => {
+                long(if call { 49 } else { 48 }, distance.cast_unsigned())
+            }
+        }
+    }
+
+    #[tactic(auto, using(crate::specs::Laws::begins_read))]
+    fn read(bytes: &[u8]) -> Option<(Instr, usize)> {
+        let instr = decode(bytes)?;
+        let spelled = Self::spell(&instr);
+        if begins_with(bytes, spelled.as_slice()) {
+            Some((instr, spelled.len()))
+        } else {
+            None
+        }
+    }
+
+    fn effect(instr: &Instr, pc: u64) -> Effect {
+        match *instr {
+            Instr::Plain(op) => plain_effect(op),
+            Instr::Frame { op, bytes } => frame_effect(op, bytes),
+            Instr::Near { held, distance } => going(Next::Branch {
+                cond: cond(held),
+                goal: goal(pc, i64::from(distance)),
+            }),
+            Instr::Far { call, distance } => going(far_next(call, goal(pc, i64::from(distance)))),
+        }
+    }
+
+    fn show(alloc: Global, instr: &Instr, pc: u64) -> Result<Bytes, Memory> {
+        let mut text = Text::new(alloc);
+        match *instr {
+            Instr::Plain(op) => text.push(op.name())?,
+            Instr::Frame { op, bytes } => {
+                text.push(op.name())?;
+                text.push_decimal(i64::from(bytes))?;
+            }
+            Instr::Near { held, distance } => {
+                text.push(near_name(held))?;
+                text.push_hex(goal(pc, i64::from(distance)))?;
+            }
+            Instr::Far { call, distance } => {
+                text.push(far_name(call))?;
+                text.push_hex(goal(pc, i64::from(distance)))?;
+            }
+        }
+        Ok(text.finish())
+    }
+}
+
+// Four bytes.
+fn short(code: u8, number: u8) -> Spelled
+    ensures { result.items ≡ spec.short code number }
+{
+    let mut bytes = ArrayVec::new();
+    bytes.push(code);
+    bytes.push(number);
+    bytes.push(0);
+    bytes.push(0);
+    bytes
+}
+
+// Eight bytes.
+fn long(code: u8, number: u32) -> Spelled
+    ensures { result.items ≡ spec.long code number }
+{
+    let mut bytes = short(code, 0);
+    let [first, second, third, fourth] = number.to_le_bytes();
+    bytes.push(first);
+    bytes.push(second);
+    bytes.push(third);
+    bytes.push(fourth);
+    bytes
+}
+
+fn near_name(held: bool) -> &'static [u8]
+    ensures { result.now ≡ spec.near_name held }
+{
+    if held { b"NEAR " } else { b"NOTNEAR " }
+}
+
+fn far_name(call: bool) -> &'static [u8]
+    ensures { result.now ≡ spec.far_name call }
+{
+    if call { b"CALL " } else { b"JMP " }
+}
