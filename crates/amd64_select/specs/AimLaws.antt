@@ -1,5 +1,5 @@
 -- The laws of forms and aims, for amd64.
-use Rattle.std.specs.Prelude.{◌↔◌, is_some, option_map, All}
+use Rattle.std.specs.Prelude.{◌↔◌, ◌&&◌, is_some, option_map, All, IfSome, if◌then◌else◌}
 use Rattle.std.specs.List.{flat_map}
 use Rattle.std.proofs.Common.{◌≡◌, ℕ, zero, suc, ℤ, pos, negsuc, ◌+ℤ◌, ◌-ℤ◌, ◌≤ℤ◌, ◌+◌, ◌-◌, ◌*◌, ◌%◌, ◌^◌, ◌<◌, ◌≤◌, Bool, true, false, IsTrue, List, [], ◌∷◌, ◌++◌, length, Option, Some, None, refl, sym, ◌∙◌, ap, subst, arith, rules, inl, inr}
 use Rattle.std.proofs.lemmas.Int.{ints}
@@ -20,6 +20,8 @@ use Rattle.amd64_table.specs.declared.op.Near.{Near}
 use Rattle.amd64_table.specs.declared.op.Near.TheVariants as near
 use Rattle.amd64_table.specs.declared.op.Indirect.TheVariants as indirect
 use Rattle.amd64_table.specs.declared.op.Plain.TheVariants as plain
+use Rattle.amd64_table.specs.declared.op.Extend.TheVariants as extend
+use Rattle.amd64_table.specs.declared.op.StoreSize.TheVariants as size
 use Rattle.amd64_table.specs.declared.instr.Instr.{Instr}
 use Rattle.amd64_table.specs.declared.instr.Instr.TheVariants as instr
 use Rattle.amd64_table.specs.Fits.{fits}
@@ -33,7 +35,7 @@ use Rattle.amd64_code.specs.InstructionSet.{amd64, Fits, end_of}
 use Rattle.amd64_code.specs.ModRm.{mem_bytes, rm_bytes}
 use Rattle.amd64_code.specs.Spelling.{spelling_of, rm_x, rm_b, store_low_head, extend_head}
 use Rattle.amd64_code.proofs.LengthLaws.{bounded}
-use Rattle.amd64_forms.specs.Aiming.{forms_of, distance_of, distance_bits, aimed_by, place_in}
+use Rattle.amd64_forms.specs.Aiming.{forms_of, aimed, distance_of, distance_bits, aimed_by, place_in}
 use Rattle.amd64_forms.proofs.AimingLemmas.{aimed_twice, distance_aimed, aimed_same, bits_aimed, distance_fits, fits_aimed}
 use Rattle.amd64_select.specs.Aims.{aiming, held}
 
@@ -57,8 +59,13 @@ same_length d (instr.ArithmeticConst op lock width constant (rms.Mem (memory.Sym
     fronts _ _ _ (tails _ (_ ∷ long_of d) (_ ∷ long_of e) refl)
 same_length d (instr.CompareConst width (rms.Mem (memory.Symbol e)) constant) =
     fronts _ _ _ (tails _ (_ ∷ long_of d) (_ ∷ long_of e) refl)
-same_length d (instr.StoreLow size from (memory.Symbol e)) = tails _ (_ ∷ long_of d) (_ ∷ long_of e) refl
-same_length d (instr.Extend op (rms.Mem (memory.Symbol e)) to) = tails _ (_ ∷ long_of d) (_ ∷ long_of e) refl
+same_length d (instr.StoreLow size.Byte from (memory.Symbol e)) = tails _ (_ ∷ long_of d) (_ ∷ long_of e) refl
+same_length d (instr.StoreLow size.Word from (memory.Symbol e)) = tails _ (_ ∷ long_of d) (_ ∷ long_of e) refl
+same_length d (instr.Extend extend.ByteZero (rms.Mem (memory.Symbol e)) to) = tails _ (_ ∷ long_of d) (_ ∷ long_of e) refl
+same_length d (instr.Extend extend.WordZero (rms.Mem (memory.Symbol e)) to) = tails _ (_ ∷ long_of d) (_ ∷ long_of e) refl
+same_length d (instr.Extend extend.ByteSign (rms.Mem (memory.Symbol e)) to) = tails _ (_ ∷ long_of d) (_ ∷ long_of e) refl
+same_length d (instr.Extend extend.WordSign (rms.Mem (memory.Symbol e)) to) = tails _ (_ ∷ long_of d) (_ ∷ long_of e) refl
+same_length d (instr.Extend extend.LongSign (rms.Mem (memory.Symbol e)) to) = tails _ (_ ∷ long_of d) (_ ∷ long_of e) refl
 same_length d (instr.StoreConst width constant (memory.Symbol e)) =
     fronts _ _ _ (tails _ (_ ∷ long_of d) (_ ∷ long_of e) refl)
 same_length d (instr.StoreByte constant (memory.Symbol e)) = fronts _ _ _ (tails _ (_ ∷ long_of d) (_ ∷ long_of e) refl)
@@ -144,3 +151,45 @@ aimed_so i j place goal aims =
     some_from : {e : ℤ} (old : Option ℤ) → option_map (λ (_ : ℤ). e) old ≡ Some e → is_some old ≡ true
     some_from None is = absurd (cc)
     some_from (Some x) is = refl
+
+-- What `aim` finds
+
+found_by : (i : Instr) (place goal : ℕ) (d : ℤ) → Fits i → moved_by (end_of i place) d ≡ goal → (some fit : Bool)
+    → is_some (distance_of i) ≡ some → fits_bits (distance_bits i) d ≡ fit
+    → IfSome (if some && fit then Some (aimed_by d i) else None) (λ j. aim.Aims amd64 Fits aiming i Whole place goal j)
+found_by i place goal d fit to true true has fits = aims_by i place goal d fit has (record { fit = fits; to = to })
+found_by i place goal d fit to true false has fits = tt
+found_by i place goal d fit to false true has fits = tt
+found_by i place goal d fit to false false has fits = tt
+
+pub aim_found : (i : Instr) (place goal : ℕ) (d : ℤ) (found : Option Instr) → Fits i → found ≡ aimed i d
+    → moved_by (end_of i place) d ≡ goal → IfSome found (λ j. aim.Aims amd64 Fits aiming i Whole place goal j)
+aim_found i place goal d found fit is to =
+    subst (λ (x : Option Instr). IfSome x (λ j. aim.Aims amd64 Fits aiming i Whole place goal j)) (sym is)
+    (found_by i place goal d fit to (is_some (distance_of i)) (fits_bits (distance_bits i) d) refl refl)
+
+fits_by : (i : Instr) (d : ℤ) → Fits i → (some fit : Bool) → fits_bits (distance_bits i) d ≡ fit
+    → IfSome (if some && fit then Some (aimed_by d i) else None) (λ j. Fits j)
+fits_by i d fit true true fits = fits_aimed d i fit fits
+fits_by i d fit true false fits = tt
+fits_by i d fit false true fits = tt
+fits_by i d fit false false fits = tt
+
+pub aimed_listed : (i : Instr) (d : ℤ) (found : Option Instr) → Fits i → found ≡ aimed i d → IfSome found (λ j. Fits j)
+aimed_listed i d found fit is =
+    subst (λ (x : Option Instr). IfSome x (λ j. Fits j)) (sym is)
+    (fits_by i d fit (is_some (distance_of i)) (fits_bits (distance_bits i) d) refl)
+
+-- a distance has at most 64 bits
+wide : (i : Instr) (d : ℤ) → IsTrue (fits_bits (distance_bits i) d) → IsTrue (fits_bits 64 d)
+unfolding distance_bits
+wide = search rules
+
+pub aim_only : (i : Instr) (place goal : ℕ) (d : ℤ) (found : Option Instr) → found ≡ aimed i d
+    → ((e : ℤ) → IsTrue (fits_bits 64 e) → moved_by (end_of i place) e ≡ goal → d ≡ e)
+    → (j : Instr) → aim.Aims amd64 Fits aiming i Whole place goal j → found ≡ Some j
+aim_only i place goal d found is sole j aims =
+    let by = aimed_so i j place goal aims in
+    let same : d ≡ by.distance = sole by.distance (wide i by.distance by.leads.fit) by.leads.to in
+    let fits : fits_bits (distance_bits i) by.distance ≡ true = by.leads.fit in
+    is ∙ ap (aimed i) same ∙ rw (by.has, fits) (ap (λ (k : Instr). Some k) (sym by.is))

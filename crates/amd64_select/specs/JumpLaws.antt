@@ -12,7 +12,8 @@ use Rattle.asm_target.specs.declared.refer.Part.TheVariants.{Whole}
 use Rattle.asm_target.specs.Aiming as aim
 use Rattle.asm_target.specs.FlowFunction.{jump_goal, call_goal}
 use Rattle.amd64_table.specs.declared.condition.Cc.{Cc}
-use Rattle.amd64_table.specs.declared.memory.Rm.{Rm}
+use Rattle.amd64_table.specs.declared.memory.Rm.TheVariants as rms
+use Rattle.amd64_table.specs.Operands.{rm_atom}
 use Rattle.amd64_table.specs.declared.op.Near.{Near}
 use Rattle.amd64_table.specs.declared.op.Near.TheVariants as near
 use Rattle.amd64_table.specs.declared.op.Indirect.TheVariants as indirect
@@ -90,14 +91,16 @@ calls_to (instr.Plain op) end goal is = absurd (cc)
 calls_to i end goal is = absurd (cc)
 
 aimed_next : (i : Instr) (d : ℤ) (end pc : ℕ) → next_of (aimed_by d i) end ≡ aim.with_goal (moved_by end d) (next_of i pc)
-unfolding next_of aimed_by
+unfolding next_of aimed_by rm_atom
 aimed_next (instr.Short None e) d end pc = refl
 aimed_next (instr.Short (Some code) e) d end pc = refl
 aimed_next (instr.Near near.Jmp e) d end pc = refl
 aimed_next (instr.Near near.Call e) d end pc = refl
 aimed_next (instr.Near (near.If code) e) d end pc = refl
-aimed_next (instr.Indirect indirect.Jmp rm) d end pc = search rules
-aimed_next (instr.Indirect indirect.Call rm) d end pc = search rules
+aimed_next (instr.Indirect indirect.Jmp (rms.Reg reg)) d end pc = refl
+aimed_next (instr.Indirect indirect.Jmp (rms.Mem mem)) d end pc = refl
+aimed_next (instr.Indirect indirect.Call (rms.Reg reg)) d end pc = refl
+aimed_next (instr.Indirect indirect.Call (rms.Mem mem)) d end pc = refl
 aimed_next (instr.Plain plain.Ret) d end pc = refl
 aimed_next (instr.Plain plain.Syscall) d end pc = refl
 aimed_next (instr.Plain plain.Undef) d end pc = refl
@@ -144,7 +147,7 @@ longer (instr.Short None d) = omega (arith, short_length None d, near_least near
 longer (instr.Short (Some code) d) = omega (arith, short_length (Some code) d, near_least (near.If code) d)
 longer i = omega arith
 
-fits_short : (i : Instr) → Fits i → Fits (short_of i)
+pub fits_short : (i : Instr) → Fits i → Fits (short_of i)
 unfolding fits
 fits_short (instr.Near near.Jmp d) fit = refl
 fits_short (instr.Near near.Call d) fit = fit
@@ -154,7 +157,7 @@ fits_short i fit = fit
 wider : (d : ℤ) → IsTrue (fits_bits 8 d) → IsTrue (fits_bits 32 d)
 wider = search rules
 
-fits_long : (i : Instr) → Fits i → Fits (long_of i)
+pub fits_long : (i : Instr) → Fits i → Fits (long_of i)
 unfolding fits
 fits_long (instr.Short None d) fit = wider d fit
 fits_long (instr.Short (Some code) d) fit = wider d fit
@@ -178,6 +181,12 @@ unfolding distance_of
 same_kind (instr.Near near.Jmp d) = refl
 same_kind (instr.Near (near.If code) d) = refl
 same_kind i = refl
+
+same_long : (i : Instr) → is_some (distance_of (long_of i)) ≡ is_some (distance_of i)
+unfolding distance_of
+same_long (instr.Short None d) = refl
+same_long (instr.Short (Some code) d) = refl
+same_long i = refl
 
 -- what is no direct jump has itself alone
 jumps_not : (i : Instr) (form end : ℕ) → jump_goal (next_of i end) ≡ None → forms_of i form ≡ i ∷ []
@@ -219,6 +228,7 @@ pub formed : aim.HaveForms amd64 Fits aiming
 formed i fit = record {
   fit = λ form least. fits_form i form fit;
   short = (short_of i, short_one i, same_kind i);
+  long = ([], long_of i, long_one i, same_long i);
   longer = let one = ap (aim.bytes_of amd64) (short_one i) ∙ one_long (short_of i) in
       let other = ap (aim.bytes_of amd64) (long_one i) ∙ one_long (long_of i) in
       omega (arith, one, other, longer i);

@@ -6,3 +6,8 @@ pub mod Aims
 pub mod AimLaws
 pub mod JumpLaws
 pub mod FrameLaws
+pub mod SelectLaws
+pub mod CheckLaws
+pub mod SequenceLaws
+pub mod ReachLaws
+pub mod Widths

@@ -1,8 +1,10 @@
 -- The laws of selection, for amd64.
-use Rattle.std.specs.Prelude.{◌⊎◌, All, map, is_some, if◌then◌else◌}
+use Rattle.std.specs.Prelude.{◌⊎◌, ◌||◌, All, map, is_some, if◌then◌else◌}
 use Rattle.std.specs.List.{flat_map}
 use Rattle.std.proofs.Common.{◌≡◌, ℕ, zero, suc, ℤ, pos, ◌+ℤ◌, ◌+◌, ◌*◌, ◌<◌, ◌≤◌, Bool, true, false, IsTrue, List, [], ◌∷◌, ◌++◌, length, Option, Some, None, refl, sym, ◌∙◌, ap, subst, arith, rules, inl, inr}
-use Rattle.std.proofs.lemmas.List.{length-append}
+use Rattle.std.proofs.lemmas.List.{length-append, length-map}
+use Rattle.std.proofs.lemmas.List.Elements.{All-append, All-cons, All-head, All-nil, All-tail}
+use Rattle.std.proofs.lemmas.Grind.{flat_map-append}
 use Rattle.goasm_base.specs.declared.statement.Operand.{Operand}
 use Rattle.goasm_base.specs.declared.statement.Operand.TheVariants as written
 use Rattle.goasm_base.specs.declared.statement.Stmt.{Stmt}
@@ -16,6 +18,7 @@ use Rattle.asm_target.specs.Aiming as aim
 use Rattle.asm_target.specs.Frames.{IsFrame}
 use Rattle.amd64_table.specs.declared.reg.Reg.{Reg}
 use Rattle.amd64_table.specs.declared.xmm.Xmm.{Xmm}
+use Rattle.amd64_table.specs.declared.memory.Mem.TheVariants as memory
 use Rattle.amd64_table.specs.declared.memory.Scale.{Scale}
 use Rattle.amd64_table.specs.declared.mnemonic.Mnemonic.{Mnemonic}
 use Rattle.amd64_table.specs.declared.mnemonic.Mnemonic.TheVariants as name
@@ -171,8 +174,89 @@ unfolding Resolves
 refers_held s site (written.Sym sym' off true) x refer resolved is = ap (λ (x : Resolved). holds_address (Some x)) resolved
 refers_held s site (written.Sym sym' off false) x refer resolved is = ap (λ (x : Resolved). holds_address (Some x)) resolved ∙ by (goes_to_symbols s)
   where
-    by : (goes : Bool) → holds_address (Some (if goes then Plain (operand.Goal (pos 0)) else symbol spoken.Widen false)) ≡ true
+    by : (goes : Bool) → holds_address (Some (if goes then Plain (operand.Goal (pos 0)) else Plain (operand.Mem (memory.Symbol (pos 0))))) ≡ true
     by true = refl
     by false = refl
 refers_held s site (written.Label statement) x refer resolved is = ap (λ (x : Resolved). holds_address (Some x)) resolved
 refers_held s site _ x refer resolved is = absurd (cc)
+
+-- so does one of all operands
+refers_some : (s : Spoken) (site : Site) (ops : List Operand) (a b : Option Resolved) (refer : Refer) → ResolveAll s site ops a b
+    → refers ops ≡ Some refer → (holds_address a || holds_address b) ≡ true
+refers_some s site [] a b refer all is = absurd (cc)
+refers_some s site (op ∷ []) a b refer all is = rw (all.2) (by (refer_of op) refl is)
+  where
+    by : (r : Option Refer) → refer_of op ≡ r → first_refer r None ≡ Some refer → (holds_address (Some all.0) || holds_address b) ≡ true
+    by None at is = absurd (cc)
+    by (Some r) at is = rw (refers_held s site op all.0 r all.1 at) refl
+refers_some s site (op ∷ other ∷ []) a b refer all is = rw (all.4, all.5) (by (refer_of op) (refer_of other) refl refl is)
+  where
+    by : (r t : Option Refer) → refer_of op ≡ r → refer_of other ≡ t → first_refer r (first_refer t None) ≡ Some refer
+        → (holds_address (Some all.0) || holds_address (Some all.1)) ≡ true
+    by None None at there is = absurd (cc)
+    by None (Some t) at there is = rw (refers_held s site other all.1 t all.3 there) (search rules)
+    by (Some r) t at there is = rw (refers_held s site op all.0 r all.2 at) refl
+refers_some s site (op ∷ other ∷ third ∷ more) a b refer all is = absurd all
+
+alone_pickable : (i : Instr) → Fits i → aim.IsPickable Fits aiming (alone i)
+alone_pickable i fit = record { fit = fit; directed = λ to is. absurd (cc) }
+
+all_alone : (code : List Instr) → All Fits code → All (aim.IsPickable Fits aiming) (map alone code)
+all_alone [] fit = All-nil (aim.IsPickable Fits aiming)
+all_alone (i ∷ code) fit =
+    All-cons (aim.IsPickable Fits aiming) (alone i) (map alone code) (alone_pickable i (All-head Fits i code fit)) (all_alone code (All-tail Fits i code fit))
+
+fits_before : (i : Instr) (frame : FrameShape) → IsFrame 62 frame → All Fits (before i frame)
+fits_before (instr.Plain plain.Ret) frame is = fits_exit frame is
+fits_before _ frame is = All-nil Fits
+
+few_before : (i : Instr) (frame : FrameShape) → length (before i frame) ≤ 2
+few_before (instr.Plain plain.Ret) frame = few_left frame
+few_before _ frame = omega arith
+
+picked_pickable : (s : Spoken) (stmt : Stmt) (site : Site) (i : Instr) → Picks s stmt.lock site stmt.operands i
+    → aim.IsPickable Fits aiming (record { instr = i; refer = refers stmt.operands })
+picked_pickable s stmt site i picks = record {
+  fit = becomes_listed s stmt.lock picks.first picks.second i picks.becomes;
+  directed = λ to is.
+      becomes_directed s stmt.lock picks.first picks.second i picks.becomes
+      ∙ refers_some s site stmt.operands picks.first picks.second (record { to = to; part = Whole }) picks.resolved is;
+}
+
+pub pickable : (stmt : Stmt) (site : Site) (code : List (Picked Instr)) → IsFrame 62 site.frame → Becomes stmt site code
+    → All (aim.IsPickable Fits aiming) code
+pickable stmt site code is becomes = by (kind_by becomes.spoken stmt site code becomes.by)
+  where
+    by : Kind stmt site code → All (aim.IsPickable Fits aiming) code
+    by (none empty) = subst (All (aim.IsPickable Fits aiming)) (sym empty) (All-nil (aim.IsPickable Fits aiming))
+    by (some s i picks told) =
+        subst (All (aim.IsPickable Fits aiming)) (sym told)
+        (All-append (aim.IsPickable Fits aiming) (map alone (before i site.frame)) (record { instr = i; refer = refers stmt.operands } ∷ []) (all_alone (before i site.frame) (fits_before i site.frame is))
+        (All-cons (aim.IsPickable Fits aiming) (record { instr = i; refer = refers stmt.operands }) [] (picked_pickable s stmt site i picks) (All-nil (aim.IsPickable Fits aiming))))
+
+-- an instruction in its long form has at most 15 bytes
+
+long_bytes : (i : Instr) → length (flat_map spelling_of (forms_of i 1)) ≤ 15
+unfolding forms_of
+long_bytes i = omega (arith, length-append (spelling_of (long_of i)) [], (bounded (long_of i)).1)
+
+most_of : (code : List (Picked Instr)) → aim.most_bytes amd64 aiming code ≤ 15 * length code
+most_of [] = omega arith
+most_of (pick ∷ code) =
+    let forms : List Instr = forms_of pick.instr 1 in
+    let rest : List Instr = flat_map (λ (pick : Picked Instr). forms_of pick.instr 1) code in
+    let split = ap length (flat_map-append spelling_of forms rest) ∙ length-append (flat_map spelling_of forms) (flat_map spelling_of rest) in
+    omega (arith, split, long_bytes pick.instr, most_of code)
+
+few_codes : (i : Instr) (refer : Option Refer) (frame : FrameShape) → length (code_of i refer frame) ≤ 3
+few_codes i refer frame =
+    omega (arith, length-append (map alone (before i frame)) (record { instr = i; refer = refer } ∷ []), length-map (before i frame) alone, few_before i frame)
+
+pub few_bytes : (stmt : Stmt) (site : Site) (code : List (Picked Instr)) → IsFrame 62 site.frame → Becomes stmt site code
+    → aim.most_bytes amd64 aiming code ≤ 64
+few_bytes stmt site code is becomes = by (kind_by becomes.spoken stmt site code becomes.by)
+  where
+    by : Kind stmt site code → aim.most_bytes amd64 aiming code ≤ 64
+    by (none empty) = omega (arith, most_of code, ap length empty)
+    by (some s i picks told) =
+        omega (arith, most_of code, ap length told, few_codes i (refers stmt.operands) site.frame)

@@ -2,7 +2,7 @@ ghost use Rattle.std.specs.Prelude.{◌≡◌, ◌≤◌, ℕ, Some, IfSome};
 ghost use Rattle.asm_target.specs.Aiming as aim;
 ghost use Rattle.amd64_table.specs.declared.instr.Instr.{Instr};
 ghost use Rattle.amd64_code.specs.InstructionSet.{amd64, Fits};
-ghost use Rattle.amd64_forms.specs.Aiming.{forms_of};
+ghost use Rattle.amd64_forms.specs.Aiming.{forms_of, short_of, long_of};
 ghost use Rattle.amd64_select.specs.Aims as spec;
 
 use crate::listed::Listed;
@@ -36,4 +36,18 @@ pub fn aim(instr: &Listed, part: Part, place: u64, goal: u64) -> Option<Listed>
         }
         Part::High | Part::Low => None,
     }
+}
+
+#[tactic(auto, using(crate::specs::JumpLaws::fits_short))]
+fn short(instr: &Listed) -> Listed
+    ensures { result ≡ short_of instr.now }
+{
+    Listed::known(short_form(*instr.instr()))
+}
+
+#[tactic(auto, using(crate::specs::JumpLaws::fits_long))]
+fn long(instr: &Listed) -> Listed
+    ensures { result ≡ long_of instr.now }
+{
+    Listed::known(long_form(*instr.instr()))
 }

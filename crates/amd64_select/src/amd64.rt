@@ -1,7 +1,10 @@
 use crate::listed::Listed;
+use crate::{aiming, frames, guard, selecting, width};
 use amd64_code::end_of;
-use asm_target::{Processor, Spelled, Target};
-use goasm_base::{Bytes, Memory};
+use asm_target::{
+    Few, FrameShape, Guard, Part, Picked, Placed, Processor, SelectNo, Sequence, Site, Spelled, Target, Width,
+};
+use goasm_base::{Bytes, Memory, Stmt};
 use machine_effect::{Effect, Shape};
 use std::alloc::Global;
 
@@ -71,4 +74,105 @@ impl Processor for Amd64 {
     }
 }
 
-impl Target for Amd64 {}
+impl Target for Amd64 {
+    ghost use Rattle.asm_target.specs.declared.sequence.Sequence.TheVariants as sequence;
+    ghost use Rattle.amd64_select.specs.Aims.{aiming as aiming_of_amd64};
+    ghost use Rattle.amd64_select.specs.AimLaws as aims;
+    ghost use Rattle.amd64_select.specs.CheckLaws as checks;
+    ghost use Rattle.amd64_select.specs.FrameLaws as frames;
+    ghost use Rattle.amd64_select.specs.Frames.{entry_of, exit_of, check_of};
+    ghost use Rattle.amd64_select.specs.JumpLaws as jumps;
+    ghost use Rattle.amd64_select.specs.ReachLaws as reach;
+    ghost use Rattle.amd64_select.specs.Selecting.{selection as selection_of_amd64};
+    ghost use Rattle.amd64_select.specs.SelectLaws as selects;
+    ghost use Rattle.amd64_select.specs.SequenceLaws as plain_laws;
+    ghost use Rattle.amd64_select.specs.Widths.{width_of_text};
+
+    ghost selection = { selection_of_amd64 };
+
+    ghost widths = { width_of_text };
+
+    ghost aiming = { aiming_of_amd64 };
+
+    ghost entry = { entry_of };
+
+    ghost exit = { exit_of };
+
+    ghost check = { check_of };
+
+    ghost begins = { frames.plain };
+
+    ghost single = { selects.single };
+
+    ghost known = { selects.known };
+
+    ghost pickable = { selects.pickable };
+
+    ghost few_bytes = { selects.few_bytes };
+
+    ghost formed = { jumps.formed };
+
+    ghost same_lengths = { aims.same_lengths };
+
+    ghost holds_goals = { jumps.holds_goals };
+
+    ghost reaches = { reach.reaches };
+
+    ghost steady = { jumps.steady };
+
+    ghost entering = { frames.entering };
+
+    ghost leaving = { frames.leaving };
+
+    ghost checking = { checks.checking };
+
+    ghost check_pickable = { checks.check_pickable };
+
+    ghost few_instructions = { plain_laws.few_instructions };
+
+    ghost apart = { plain_laws.apart };
+
+    ghost told = { plain_laws.told };
+
+    ghost grows_anywhere = { plain_laws.grows_anywhere };
+
+    ghost acts = { plain_laws.acts };
+
+    fn is_word(name: &[u8]) -> bool {
+        amd64_forms::is_word(name)
+    }
+
+    fn width(op: &[u8]) -> Width {
+        width::width(op)
+    }
+
+    fn select(alloc: Global, stmt: &Stmt, site: Site) -> Result<Vec<Picked<Listed>>, SelectNo> {
+        selecting::select(alloc, stmt, site)
+    }
+
+    fn forms(instr: &Listed, form: u8) -> Few<Listed> {
+        aiming::forms(instr, form)
+    }
+
+    fn aim(instr: &Listed, part: Part, place: u64, goal: u64) -> Option<Listed> {
+        aiming::aim(instr, part, place, goal)
+    }
+
+    fn enter(frame: FrameShape) -> Few<Listed> {
+        frames::enter(frame)
+    }
+
+    fn leave(frame: FrameShape) -> Few<Listed> {
+        frames::leave(frame)
+    }
+
+    fn guard(frame: FrameShape) -> Guard<Listed> {
+        guard::guard(frame)
+    }
+
+    /// Each instruction is judged by itself: a call pushes its return address, so no frame saves a link register.
+    fn sequence(code: &[Placed<Listed>]) -> Sequence {
+        let _ = code;
+        Sequence::Plain
+    }
+}

@@ -100,6 +100,7 @@ pub fn release(frame: FrameShape) -> Listed
 }
 
 /// `ADDQ $n, reg` and its kin.
+#[tactic(auto, using(crate::specs::FrameLaws::small), unfolding(amd64_table::specs::Fits::fits, amd64_table::specs::Fits::fits_rm, amd64_table::specs::Fits::fits_mem, amd64_table::specs::Fits::fits_lock))]
 pub fn by_constant(op: Arithmetic, n: u32, reg: Reg) -> Listed
     requires { n ≤ 1048576 }
     ensures { result ≡ spec.by_constant op n reg }

@@ -37,6 +37,7 @@ fn head(total: u32) -> Few<Picked<Listed>>
 }
 
 // LEAQ -k(SP), AX
+#[tactic(auto, unfolding(amd64_table::specs::Fits::fits, amd64_table::specs::Fits::fits_rm, amd64_table::specs::Fits::fits_mem, amd64_table::specs::Fits::fits_lock))]
 fn page_head(k: u32) -> Few<Picked<Listed>>
     requires { k ≤ 1048576 }
     ensures { result ≡ spec.page_checked k }
@@ -54,6 +55,7 @@ fn page_head(k: u32) -> Few<Picked<Listed>>
 }
 
 // MOVQ SP, AX; SUBQ $k, AX; JCS block
+#[tactic(auto, unfolding(amd64_table::specs::Fits::fits, amd64_table::specs::Fits::fits_rm, amd64_table::specs::Fits::fits_mem, amd64_table::specs::Fits::fits_lock))]
 fn large_head(k: u32) -> Few<Picked<Listed>>
     requires { k ≤ 1048576 }
     ensures { result ≡ spec.large_checked k }
@@ -75,6 +77,7 @@ fn large_head(k: u32) -> Few<Picked<Listed>>
 }
 
 // MOVQ (TLS), CX
+#[tactic(auto, unfolding(amd64_table::specs::Fits::fits, amd64_table::specs::Fits::fits_rm, amd64_table::specs::Fits::fits_mem, amd64_table::specs::Fits::fits_lock))]
 fn loaded() -> Few<Picked<Listed>>
     ensures { result ≡ spec.load_g ∷ [] }
 {
@@ -84,6 +87,7 @@ fn loaded() -> Few<Picked<Listed>>
 }
 
 // CMPQ reg, 16(CX); JLS block
+#[tactic(auto, unfolding(amd64_table::specs::Fits::fits, amd64_table::specs::Fits::fits_rm, amd64_table::specs::Fits::fits_mem, amd64_table::specs::Fits::fits_lock))]
 fn compare(code: &mut Few<Picked<Listed>>, reg: Reg)
     requires { length code.old < 13 }
     ensures { code.new ≡ code.old ++ spec.compared reg }
@@ -122,6 +126,7 @@ fn simple(instr: Instr) -> Picked<Listed>
 }
 
 // A jump or a call.
+#[tactic(auto, unfolding(amd64_table::specs::Fits::fits, amd64_table::specs::Fits::fits_rm, amd64_table::specs::Fits::fits_mem, amd64_table::specs::Fits::fits_lock))]
 fn going(op: Near, to: To) -> Picked<Listed>
     ensures { result ≡ spec.going op to }
 {

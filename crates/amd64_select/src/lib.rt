@@ -10,6 +10,7 @@ mod guard;
 mod listed;
 mod operands;
 mod selecting;
+mod width;
 
 pub use amd64::Amd64;
 pub use listed::Listed;

@@ -11,7 +11,7 @@ ghost use Rattle.amd64_forms.specs.declared.rows.Resolved.{Resolved};
 ghost use Rattle.amd64_forms.specs.declared.rows.Spoken.{Spoken};
 ghost use Rattle.amd64_forms.specs.declared.rows.Spoken.TheVariants as spoken;
 ghost use Rattle.amd64_forms.specs.Words.{Says};
-ghost use Rattle.amd64_select.specs.Operands as operands;
+ghost use Rattle.amd64_select.specs.Operands as operand_spec;
 ghost use Rattle.amd64_select.specs.Selecting as spec;
 
 use crate::frames::{release, restore};
@@ -63,16 +63,16 @@ fn known(stmt: &Stmt) -> Option<Spoken>
 
 // The instruction that a name with operands is, as they stand or with eased numbers.
 fn picked(ease: bool, spoken: Spoken, lock: bool, site: Site, operands: &[Operand]) -> Option<Listed>
-    ensures found { IfSome result (λ i. spec.Picks spoken lock site (map (operands.taken ease site) operands.now) i) }
-    ensures only { (i : Instr) → spec.Picks spoken lock site (map (operands.taken ease site) operands.now) i → result ≡ Some i }
+    ensures found { IfSome result (λ i. spec.Picks spoken lock site (map (operand_spec.taken ease site) operands.now) i) }
+    ensures only { (i : Instr) → spec.Picks spoken lock site (map (operand_spec.taken ease site) operands.now) i → result ≡ Some i }
 {
     let (first, second) = resolved(ease, spoken, site, operands)?;
     Listed::chosen(chosen(spoken, lock, first, second))
 }
 
 fn resolved(ease: bool, spoken: Spoken, site: Site, operands: &[Operand]) -> Option<(Option<Resolved>, Option<Resolved>)>
-    ensures found { IfSome result (λ two. spec.ResolveAll spoken site (map (operands.taken ease site) operands.now) two.0 two.1) }
-    ensures only { (first second : Option Resolved) → spec.ResolveAll spoken site (map (operands.taken ease site) operands.now) first second
+    ensures found { IfSome result (λ two. spec.ResolveAll spoken site (map (operand_spec.taken ease site) operands.now) two.0 two.1) }
+    ensures only { (first second : Option Resolved) → spec.ResolveAll spoken site (map (operand_spec.taken ease site) operands.now) first second
         → result ≡ Some (first, second) }
 {
     match operands {
@@ -94,7 +94,7 @@ fn refers(operands: &[Operand]) -> Option<Refer>
 }
 
 fn refer_of(operand: &Operand) -> Option<Refer>
-    ensures { result ≡ operands.refer_of operand.now }
+    ensures { result ≡ operand_spec.refer_of operand.now }
 {
     let to = match operand {
         Operand::Sym { sym, off, .. } => To::Symbol(*sym, *off),

@@ -1,0 +1,5 @@
+use Rattle.amd64_select.specs.FrameLaws.{fits_restore, locals_most}
+use Rattle.amd64_select.proofs.frames.restore.Goals as goal
+
+pub known-requires : goal.known-requires
+known-requires c = fits_restore c.args.frame.locals (locals_most c.args.frame c.requires)
