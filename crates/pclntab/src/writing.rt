@@ -20,7 +20,7 @@ use std::alloc::Global;
 
 /// The table of these parts in the Go 1.20 form, as Go's linker lays one out (`cmd/link/internal/ld/pcln.go`): the header,
 /// then names, units' files, file names, pc-value tables and functions, each at the next multiple of 8. Equal pc-value
-/// tables stand once, at their first place. Names and files stand as they are given.
+/// tables stand once, at their first place. Names and files stand as they are given. It is refused for want of memory alone.
 pub fn write(alloc: Global, parts: &TableParts) -> Result<Bytes, Memory>
     requires { AreParts parts.now }
     ensures bytes { IfOk result (λ bytes. bytes ≡ written parts.now) }

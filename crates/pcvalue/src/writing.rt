@@ -10,10 +10,11 @@ use goasm_base::{Bytes, Memory};
 use std::alloc::Global;
 
 /// The pc-value table of the runs, in its least form: each number in its fewest bytes, no run without length, and no
-/// neighbours of one value (`funcpctab` in Go's `cmd/link/internal/ld/pcln.go` and `cmd/internal/obj/pcln.go`).
+/// neighbours of one value (`funcpctab` in Go's `cmd/internal/obj/pcln.go`).
 ///
 /// Ends count bytes from the function's entry and are multiples of the quantum. There has to be a run; ends rise from
-/// above 0, neighbours differ in value, and each change of value, the first from -1, fits 32 bits.
+/// above 0, neighbours differ in value, and each change of value, the first from -1, fits 32 bits. It is refused for want of
+/// memory alone.
 pub fn encode(alloc: Global, runs: &[Run], quantum: u8) -> Result<Bytes, Memory>
     requires { AreRuns quantum runs.now }
     ensures bytes { IfOk result (λ bytes. bytes ≡ table_bytes quantum runs.now) }
