@@ -1,9 +1,8 @@
 -- What is so, and the fault of what isn't: each holds exactly where the other doesn't.
-use Rattle.std.proofs.Common.{◌≡◌, ℕ, ◌≤◌, ◌&&◌, ◌==◌, Bool, true, false, nat_le, nat_eq, List, Option, Some, None, IsTrue, inl, inr, refl, ap}
-use Rattle.std.specs.Option.{option_or, option_map}
+use Rattle.std.proofs.Common.{◌≡◌, ℕ, ◌≤◌, ◌&&◌, Bool, true, false, nat_le, nat_eq, List, Option, Some, None, IsTrue, refl, ap}
+use Rattle.std.specs.Option.{option_or}
 use Rattle.std.proofs.lemmas.Bool.{leb-true, le-leb, eqb-true, eq-eqb, and_parts, and_from}
 use Rattle.elf_image.specs.declared.fault.ImageNo.{ImageNo}
-use Rattle.elf_image.specs.declared.fault.ImageNo.TheVariants.{I1, I2}
 use Rattle.elf_image.specs.declared.rows.Row.{Row}
 use Rattle.elf_image.specs.Rows.{HasRows, rows_fault}
 use Rattle.elf_image.specs.Faults.{unless, header_at, layout_at, field_at}
@@ -42,11 +41,11 @@ equal a b fault = record {
 pub begins : (a b x y : ℕ) (fault : ImageNo) → Agree ((a ≤ b) × (x ≡ y)) (unless (nat_le a b && nat_eq x y) fault)
 begins a b x y fault = record {
   told = λ is.
-    (let parts = and_parts (nat_le a b) (nat_eq x y) ((tested (nat_le a b && nat_eq x y) fault).told is) in
-    (leb-true a b parts.0, eqb-true x y parts.1));
+      (let parts = and_parts (nat_le a b) (nat_eq x y) ((tested (nat_le a b && nat_eq x y) fault).told is) in
+      (leb-true a b parts.0, eqb-true x y parts.1));
   none = λ facts.
-    (tested (nat_le a b && nat_eq x y) fault).none
-    (and_from (nat_le a b) (nat_eq x y) (le-leb a b facts.0) (eq-eqb x y facts.1));
+      (tested (nat_le a b && nat_eq x y) fault).none
+      (and_from (nat_le a b) (nat_eq x y) (le-leb a b facts.0) (eq-eqb x y facts.1));
 }
 
 none_header : (place : Option ℕ) → header_at place ≡ None → place ≡ None

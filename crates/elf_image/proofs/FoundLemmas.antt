@@ -1,5 +1,5 @@
 -- What the headers of a written image say.
-use Rattle.std.proofs.Common.{◌≡◌, ℕ, ◌+◌, ◌-◌, ◌*◌, ◌<◌, ◌≤◌, ◌^◌, Bool, true, false, ◌||◌, nat_eq, List, ◌++◌, length, inl, inr, IsTrue, refl, sym, ◌∙◌, ap, subst, arith, length-append}
+use Rattle.std.proofs.Common.{◌≡◌, ℕ, ◌+◌, ◌<◌, ◌^◌, true, ◌||◌, nat_eq, List, ◌++◌, length, inl, inr, IsTrue, refl, subst, arith, length-append}
 use Rattle.std.proofs.lemmas.Bool.{eq-eqb, eqb-true, or_cases}
 use Rattle.std.proofs.lemmas.List.Sums.{count_by-le-length}
 use Rattle.byte_layout.specs.Stands.{Stands}
@@ -7,16 +7,16 @@ use Rattle.byte_layout.proofs.StandsLemmas.{stands_moved}
 use Rattle.elf_image.specs.declared.layout.Sizes.{Sizes}
 use Rattle.elf_image.specs.declared.rows.Width.TheVariants.{Half, Word, Xword}
 use Rattle.elf_image.specs.declared.rows.Wanted.{Wanted}
-use Rattle.elf_image.specs.declared.rows.Wanted.TheVariants.{Any, Is, Machine}
+use Rattle.elf_image.specs.declared.rows.Wanted.TheVariants.{Is, Machine}
 use Rattle.elf_image.specs.declared.headers.Section.{Section}
 use Rattle.elf_image.specs.declared.parts.ImageParts.{ImageParts}
 use Rattle.elf_image.specs.Rows.{number_at, meets, HasRows, value_of, rows_bytes, labels_size}
-use Rattle.elf_image.specs.Layout.{text_offset, table_offset, values_offset, symbols_offset, strings_offset, labels_offset, labels_end, sections_offset, machine_in, entry_in, sections_in, program_size, section_at, section_size, sizes_in, info_in, info_place}
+use Rattle.elf_image.specs.Layout.{text_offset, table_offset, values_offset, symbols_offset, strings_offset, labels_offset, sections_offset, machine_in, entry_in, sections_in, program_size, section_at, section_size, sizes_in, info_in}
 use Rattle.elf_image.specs.Headers.{ident_rows, header_rows, program_rows, text_flags, table_flags, values_flags, section_rows, null_section, loaded_section, text_section, table_section, values_section, symbols_section, names_section, strings_section, labels_section}
 use Rattle.elf_image.specs.Groups.{is_local}
 use Rattle.elf_image.specs.Symbols.{null_symbol}
 use Rattle.elf_image.specs.Parts.{group_of_part}
-use Rattle.elf_image.specs.Written.{parts_bytes, symbol_bytes, locals_of, sizes_of, front_rows, all_sections, AreParts}
+use Rattle.elf_image.specs.Written.{parts_bytes, symbol_bytes, locals_of, sizes_of, AreParts}
 use Rattle.elf_image.proofs.LayoutLemmas.{AreBefore, ends_before}
 use Rattle.elf_image.proofs.LaidLemmas.{Laid}
 use Rattle.elf_image.proofs.PartLemmas.{entry_fits, length_parts}
@@ -40,33 +40,183 @@ pub header_allowed : (machine entry sections : ℕ) (known from headers : Wanted
     → machine < 65536 → entry < 2 ^ 64 → sections < 2 ^ 64
     → meets known machine ≡ true → meets from entry ≡ true → meets headers sections ≡ true
     → Allow (header_rows known from headers) (header_rows (Is machine) (Is entry) (Is sections))
-header_allowed machine entry sections known from headers a b c machine_met entry_met sections_met =
-    (refl, (omega arith, (refl,
-      (refl, (a, (machine_met,
-        (refl, (omega arith, (refl,
-          (refl, (b, (entry_met,
-            (refl, (omega arith, (refl,
-              (refl, (c, (sections_met,
-                (refl, (omega arith, (refl,
-                  (refl, (omega arith, (refl,
-                    (refl, (omega arith, (refl,
-                      (refl, (omega arith, (refl,
-                        (refl, (omega arith, (refl,
-                          (refl, (omega arith, (refl,
-                            (refl, (omega arith, (refl, tt)))))))))))))))))))))))))))))))))))))))
+header_allowed machine entry sections known from headers a b c machine_met entry_met sections_met = (
+  refl,
+  (
+    omega arith,
+    (
+      refl,
+      (
+        refl,
+        (
+          a,
+          (
+            machine_met,
+            (
+              refl,
+              (
+                omega arith,
+                (
+                  refl,
+                  (
+                    refl,
+                    (
+                      b,
+                      (
+                        entry_met,
+                        (
+                          refl,
+                          (
+                            omega arith,
+                            (
+                              refl,
+                              (
+                                refl,
+                                (
+                                  c,
+                                  (
+                                    sections_met,
+                                    (
+                                      refl,
+                                      (
+                                        omega arith,
+                                        (
+                                          refl,
+                                          (
+                                            refl,
+                                            (
+                                              omega arith,
+                                              (
+                                                refl,
+                                                (
+                                                  refl,
+                                                  (
+                                                    omega arith,
+                                                    (
+                                                      refl,
+                                                      (
+                                                        refl,
+                                                        (
+                                                          omega arith,
+                                                          (
+                                                            refl,
+                                                            (
+                                                              refl,
+                                                              (
+                                                                omega arith,
+                                                                (
+                                                                  refl,
+                                                                  (
+                                                                    refl,
+                                                                    (
+                                                                      omega arith,
+                                                                      (
+                                                                        refl,
+                                                                        (refl, (omega arith, (refl, tt))),
+                                                                      ),
+                                                                    ),
+                                                                  ),
+                                                                ),
+                                                              ),
+                                                            ),
+                                                          ),
+                                                        ),
+                                                      ),
+                                                    ),
+                                                  ),
+                                                ),
+                                              ),
+                                            ),
+                                          ),
+                                        ),
+                                      ),
+                                    ),
+                                  ),
+                                ),
+                              ),
+                            ),
+                          ),
+                        ),
+                      ),
+                    ),
+                  ),
+                ),
+              ),
+            ),
+          ),
+        ),
+      ),
+    ),
+  ),
+)
 
 pub program_allowed : (flags offset size : ℕ) (file memory : Wanted)
     → flags < 2 ^ 32 → offset < 2 ^ 32 → size < 2 ^ 32 → meets file size ≡ true → meets memory size ≡ true
     → Allow (program_rows flags offset file memory) (program_rows flags offset (Is size) (Is size))
-program_allowed flags offset size file memory a b c file_met memory_met =
-    (refl, (omega arith, (refl,
-      (refl, (a, (eq-eqb flags flags refl,
-        (refl, (omega arith, (eq-eqb offset offset refl,
-          (refl, (omega arith, (eq-eqb (offset + 0x3FF000) (offset + 0x3FF000) refl,
-            (refl, (omega arith, (eq-eqb (offset + 0x3FF000) (offset + 0x3FF000) refl,
-              (refl, (omega arith, (file_met,
-                (refl, (omega arith, (memory_met,
-                  (refl, (omega arith, (refl, tt))))))))))))))))))))))))
+program_allowed flags offset size file memory a b c file_met memory_met = (
+  refl,
+  (
+    omega arith,
+    (
+      refl,
+      (
+        refl,
+        (
+          a,
+          (
+            eq-eqb flags flags refl,
+            (
+              refl,
+              (
+                omega arith,
+                (
+                  eq-eqb offset offset refl,
+                  (
+                    refl,
+                    (
+                      omega arith,
+                      (
+                        eq-eqb (offset + 0x3FF000) (offset + 0x3FF000) refl,
+                        (
+                          refl,
+                          (
+                            omega arith,
+                            (
+                              eq-eqb (offset + 0x3FF000) (offset + 0x3FF000) refl,
+                              (
+                                refl,
+                                (
+                                  omega arith,
+                                  (
+                                    file_met,
+                                    (
+                                      refl,
+                                      (
+                                        omega arith,
+                                        (
+                                          memory_met,
+                                          (refl, (omega arith, (refl, tt))),
+                                        ),
+                                      ),
+                                    ),
+                                  ),
+                                ),
+                              ),
+                            ),
+                          ),
+                        ),
+                      ),
+                    ),
+                  ),
+                ),
+              ),
+            ),
+          ),
+        ),
+      ),
+    ),
+  ),
+)
 
 -- the numbers of a section header are small
 pub record IsSmall (section : Section) : Type 0 where
@@ -84,43 +234,146 @@ pub record IsSmall (section : Section) : Type 0 where
 pub section_allowed : (section : Section) (size info : Wanted) → IsSmall section
     → meets size (value_of section.size) ≡ true → meets info (value_of section.info) ≡ true
     → Allow (section_rows (record section { size = size; info = info })) (section_rows section)
-section_allowed section size info small size_met info_met =
-    (refl, (small.name, (eq-eqb section.name section.name refl,
-      (refl, (small.kind, (eq-eqb section.kind section.kind refl,
-        (refl, (small.flags, (eq-eqb section.flags section.flags refl,
-          (refl, (small.address, (eq-eqb section.address section.address refl,
-            (refl, (small.offset, (eq-eqb section.offset section.offset refl,
-              (refl, (small.size, (size_met,
-                (refl, (small.link, (eq-eqb section.link section.link refl,
-                  (refl, (small.info, (info_met,
-                    (refl, (small.align, (eq-eqb section.align section.align refl,
-                      (refl, (small.entry_size, (eq-eqb section.entry_size section.entry_size refl, tt))))))))))))))))))))))))))))))
+section_allowed section size info small size_met info_met = (
+  refl,
+  (
+    small.name,
+    (
+      eq-eqb section.name section.name refl,
+      (
+        refl,
+        (
+          small.kind,
+          (
+            eq-eqb section.kind section.kind refl,
+            (
+              refl,
+              (
+                small.flags,
+                (
+                  eq-eqb section.flags section.flags refl,
+                  (
+                    refl,
+                    (
+                      small.address,
+                      (
+                        eq-eqb section.address section.address refl,
+                        (
+                          refl,
+                          (
+                            small.offset,
+                            (
+                              eq-eqb section.offset section.offset refl,
+                              (
+                                refl,
+                                (
+                                  small.size,
+                                  (
+                                    size_met,
+                                    (
+                                      refl,
+                                      (
+                                        small.link,
+                                        (
+                                          eq-eqb section.link section.link refl,
+                                          (
+                                            refl,
+                                            (
+                                              small.info,
+                                              (
+                                                info_met,
+                                                (
+                                                  refl,
+                                                  (
+                                                    small.align,
+                                                    (
+                                                      eq-eqb section.align section.align refl,
+                                                      (refl, (small.entry_size, (eq-eqb section.entry_size section.entry_size refl, tt))),
+                                                    ),
+                                                  ),
+                                                ),
+                                              ),
+                                            ),
+                                          ),
+                                        ),
+                                      ),
+                                    ),
+                                  ),
+                                ),
+                              ),
+                            ),
+                          ),
+                        ),
+                      ),
+                    ),
+                  ),
+                ),
+              ),
+            ),
+          ),
+        ),
+      ),
+    ),
+  ),
+)
 
 pub null_small : IsSmall null_section
 null_small = record {
-  name = omega arith; kind = omega arith; flags = omega arith; address = omega arith; offset = omega arith;
-  size = omega arith; link = omega arith; info = omega arith; align = omega arith; entry_size = omega arith;
+  name = omega arith;
+  kind = omega arith;
+  flags = omega arith;
+  address = omega arith;
+  offset = omega arith;
+  size = omega arith;
+  link = omega arith;
+  info = omega arith;
+  align = omega arith;
+  entry_size = omega arith;
 }
 
 pub loaded_small : (name flags offset size align : ℕ) → name < 2 ^ 32 → flags < 2 ^ 32 → offset < 2 ^ 32 → size < 2 ^ 32 → align < 2 ^ 32
     → IsSmall (loaded_section name flags offset size align)
 loaded_small name flags offset size align a b c d e = record {
-  name = a; kind = omega arith; flags = omega arith; address = omega arith; offset = omega arith;
-  size = omega arith; link = omega arith; info = omega arith; align = omega arith; entry_size = omega arith;
+  name = a;
+  kind = omega arith;
+  flags = omega arith;
+  address = omega arith;
+  offset = omega arith;
+  size = omega arith;
+  link = omega arith;
+  info = omega arith;
+  align = omega arith;
+  entry_size = omega arith;
 }
 
 pub symbols_small : (offset size info : ℕ) → offset < 2 ^ 32 → size < 2 ^ 32 → info < 2 ^ 32
     → IsSmall (symbols_section offset (Is size) (Is info))
 symbols_small offset size info a b c = record {
-  name = omega arith; kind = omega arith; flags = omega arith; address = omega arith; offset = omega arith;
-  size = omega arith; link = omega arith; info = omega arith; align = omega arith; entry_size = omega arith;
+  name = omega arith;
+  kind = omega arith;
+  flags = omega arith;
+  address = omega arith;
+  offset = omega arith;
+  size = omega arith;
+  link = omega arith;
+  info = omega arith;
+  align = omega arith;
+  entry_size = omega arith;
 }
 
 pub names_small : (name offset size : ℕ) → name < 2 ^ 32 → offset < 2 ^ 32 → size < 2 ^ 32
     → IsSmall (names_section name offset (Is size))
 names_small name offset size a b c = record {
-  name = omega arith; kind = omega arith; flags = omega arith; address = omega arith; offset = omega arith;
-  size = omega arith; link = omega arith; info = omega arith; align = omega arith; entry_size = omega arith;
+  name = omega arith;
+  kind = omega arith;
+  flags = omega arith;
+  address = omega arith;
+  offset = omega arith;
+  size = omega arith;
+  link = omega arith;
+  info = omega arith;
+  align = omega arith;
+  entry_size = omega arith;
 }
 
 -- where the headers stand
@@ -156,7 +409,7 @@ pub record Backs (parts : ImageParts) (bytes : List ℕ) : Type 0 where
   pub table : Stands bytes (sections_offset (sizes_of parts) + 128) (rows_bytes (section_rows (table_section (table_offset (sizes_of parts)) (sizes_of parts).table)))
   pub values : Stands bytes (sections_offset (sizes_of parts) + 192) (rows_bytes (section_rows (values_section (values_offset (sizes_of parts)) (sizes_of parts).values)))
   pub symbols : Stands bytes (sections_offset (sizes_of parts) + 256)
-    (rows_bytes (section_rows (symbols_section (symbols_offset (sizes_of parts)) (Is (sizes_of parts).symbols) (Is (locals_of parts.symbols)))))
+      (rows_bytes (section_rows (symbols_section (symbols_offset (sizes_of parts)) (Is (sizes_of parts).symbols) (Is (locals_of parts.symbols)))))
   pub strings : Stands bytes (sections_offset (sizes_of parts) + 320) (rows_bytes (section_rows (strings_section (strings_offset (sizes_of parts)) (Is (sizes_of parts).strings))))
   pub labels : Stands bytes (sections_offset (sizes_of parts) + 384) (rows_bytes (section_rows (labels_section (labels_offset (sizes_of parts)) (Is labels_size))))
 
@@ -244,8 +497,8 @@ found parts bytes are short laid =
     let rows = written_rows bytes 16 (header_rows (Is parts.machine) (Is parts.entry) (Is (sections_offset sizes)))
     (header_rows (Is parts.machine) (Is parts.entry) (Is (sections_offset sizes)))
     (header_allowed parts.machine parts.entry (sections_offset sizes) (Is parts.machine) (Is parts.entry) (Is (sections_offset sizes))
-      (machine_fits parts.machine are.machine) (entry_fits parts.entry parts.symbols are.symbols are.entry) fits
-      (eq-eqb parts.machine parts.machine refl) (eq-eqb parts.entry parts.entry refl) (eq-eqb (sections_offset sizes) (sections_offset sizes) refl))
+    (machine_fits parts.machine are.machine) (entry_fits parts.entry parts.symbols are.symbols are.entry) fits
+    (eq-eqb parts.machine parts.machine refl) (eq-eqb parts.entry parts.entry refl) (eq-eqb (sections_offset sizes) (sections_offset sizes) refl))
     front.header in
     let sections : sections_in bytes ≡ sections_offset (sizes_of parts)
     = eqb-true (number_at bytes 40 Xword) (sections_offset (sizes_of parts)) rows.1.1.1.1.1.0 in
@@ -258,14 +511,14 @@ found parts bytes are short laid =
     let symbols_is = symbols_section (symbols_offset (sizes_of parts)) (Is (sizes_of parts).symbols) (Is (locals_of parts.symbols)) in
     let symbols_rows = written_rows bytes (section_at bytes 4) (section_rows symbols_is) (section_rows symbols_is)
     (section_allowed symbols_is (Is (sizes_of parts).symbols) (Is (locals_of parts.symbols))
-      (symbols_small (symbols_offset (sizes_of parts)) (sizes_of parts).symbols (locals_of parts.symbols) (omega arith) (omega arith) all.locals)
-      (eq-eqb (sizes_of parts).symbols (sizes_of parts).symbols refl) (eq-eqb (locals_of parts.symbols) (locals_of parts.symbols) refl))
+    (symbols_small (symbols_offset (sizes_of parts)) (sizes_of parts).symbols (locals_of parts.symbols) (omega arith) (omega arith) all.locals)
+    (eq-eqb (sizes_of parts).symbols (sizes_of parts).symbols refl) (eq-eqb (locals_of parts.symbols) (locals_of parts.symbols) refl))
     (stands_moved bytes (sections_offset (sizes_of parts) + 256) (section_at bytes 4) (rows_bytes (section_rows symbols_is)) (omega arith) back.symbols) in
     let strings_is = strings_section (strings_offset (sizes_of parts)) (Is (sizes_of parts).strings) in
     let strings_rows = written_rows bytes (section_at bytes 5) (section_rows strings_is) (section_rows strings_is)
     (section_allowed strings_is (Is (sizes_of parts).strings) (Is 0)
-      (names_small 32 (strings_offset (sizes_of parts)) (sizes_of parts).strings (omega arith) (omega arith) (omega arith))
-      (eq-eqb (sizes_of parts).strings (sizes_of parts).strings refl) refl)
+    (names_small 32 (strings_offset (sizes_of parts)) (sizes_of parts).strings (omega arith) (omega arith) (omega arith))
+    (eq-eqb (sizes_of parts).strings (sizes_of parts).strings refl) refl)
     (stands_moved bytes (sections_offset (sizes_of parts) + 320) (section_at bytes 5) (rows_bytes (section_rows strings_is)) (omega arith) back.strings) in
     let symbols : section_size bytes (section_at bytes 4) ≡ (sizes_of parts).symbols
     = eqb-true (section_size bytes (section_at bytes 4)) (sizes_of parts).symbols (section_size_meets bytes (section_at bytes 4) symbols_is symbols_rows) in
@@ -276,7 +529,7 @@ found parts bytes are short laid =
       entry = eqb-true (number_at bytes 24 Xword) parts.entry rows.1.1.1.0;
       sections = sections;
       sizes = made (program_size bytes 64) (length parts.text) (program_size bytes 120) (length parts.table)
-        (program_size bytes 176) (length parts.values) (section_size bytes (section_at bytes 4)) (sizes_of parts).symbols
-        (section_size bytes (section_at bytes 5)) (sizes_of parts).strings text table values symbols strings;
+          (program_size bytes 176) (length parts.values) (section_size bytes (section_at bytes 4)) (sizes_of parts).symbols
+          (section_size bytes (section_at bytes 5)) (sizes_of parts).strings text table values symbols strings;
       info = eqb-true (info_in bytes) (locals_of parts.symbols) (info_meets bytes (section_at bytes 4) symbols_is symbols_rows);
     }

@@ -1,11 +1,10 @@
 -- Bytes that are judged one by one.
-use Rattle.std.proofs.Common.{◌≡◌, ◌≢◌, ℕ, zero, suc, ◌+◌, ◌-◌, ◌<◌, ◌≤◌, Bool, true, false, nat_eq, List, [], ◌∷◌, length, drop, get_or, map, Option, Some, None, refl, sym, ◌∙◌, ap, arith}
+use Rattle.std.proofs.Common.{◌≡◌, ℕ, suc, ◌+◌, ◌-◌, ◌<◌, ◌≤◌, true, false, nat_eq, List, [], ◌∷◌, length, drop, get_or, Some, None, refl, ◌∙◌, ap, arith}
 use Rattle.std.specs.Prelude.{replicate}
 use Rattle.std.proofs.lemmas.Bool.{eq-eqb, ne_eqb}
 use Rattle.std.proofs.lemmas.List.{drop_more, drop_all}
 use Rattle.elf_image.specs.declared.rows.Width.TheVariants.{Char}
-use Rattle.elf_image.specs.declared.rows.Wanted.TheVariants.{Is}
-use Rattle.elf_image.specs.Rows.{number_at, char, meets, rows_fault, byte_rows}
+use Rattle.elf_image.specs.Rows.{number_at, rows_fault, byte_rows}
 
 first_is : (bytes : List ℕ) (at byte : ℕ) (rest : List ℕ) → number_at bytes at Char ≡ byte
     → rows_fault bytes at (byte_rows (byte ∷ rest)) ≡ rows_fault bytes (at + 1) (byte_rows rest)

@@ -1,5 +1,5 @@
 -- What is written of a group tells it.
-use Rattle.std.proofs.Common.{◌≡◌, ℕ, ◌<◌, ◌≤◌, ◌^◌, ◌&&◌, Bool, true, false, nat_le, nat_eq, Some, IsTrue, refl, arith}
+use Rattle.std.proofs.Common.{◌≡◌, ◌<◌, ◌≤◌, true, Some, refl, arith}
 use Rattle.std.proofs.lemmas.Bool.{le-leb}
 use Rattle.elf_image.specs.declared.group.Group.{Group}
 use Rattle.elf_image.specs.declared.group.Group.TheVariants.{LocalFunctions, LocalValues, GlobalFunctions, GlobalValues, Outside}

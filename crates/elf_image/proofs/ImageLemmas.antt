@@ -1,17 +1,16 @@
 -- The facts of an image, and its first fault.
-use Rattle.std.proofs.Common.{◌≡◌, ◌∙◌, ℕ, ◌+◌, ◌-◌, ◌%◌, ◌≤◌, nat_le, List, length, slice_index, Option, Some, None, Result, Ok, Err, IsTrue, refl, sym, ap}
+use Rattle.std.proofs.Common.{◌≡◌, ◌∙◌, ℕ, ◌+◌, ◌-◌, ◌%◌, ◌≤◌, List, length, slice_index, None, Result, Ok, Err, refl, ap}
 use Rattle.std.specs.Prelude.{replicate}
-use Rattle.std.specs.Option.{option_or}
 use Rattle.elf_image.specs.declared.fault.ImageNo.TheVariants.{I1, I2, I3, I4}
 use Rattle.elf_image.specs.declared.rows.Wanted.TheVariants.{Any, Is, Machine, Within, Entries, Labels}
 use Rattle.elf_image.specs.declared.headers.Section.{Section}
 use Rattle.elf_image.specs.declared.symbols.Reading.{Reading}
-use Rattle.elf_image.specs.Rows.{HasRows, rows_fault, byte_rows}
+use Rattle.elf_image.specs.Rows.{HasRows, byte_rows}
 use Rattle.elf_image.specs.Layout.{header_size, headers_size, sections_size, text_offset, text_end, table_offset, table_end, values_offset, values_end, symbols_offset, symbols_end, strings_offset, strings_end, labels_offset, labels_end, sections_offset, sections_place, entry_place, labels, entry_in, sections_in, text_header, table_header, values_header, program_size, section_at, sizes_in, info_in, info_place}
 use Rattle.elf_image.specs.Headers.{ident_rows, header_rows, program_rows, text_flags, table_flags, values_flags, section_rows, null_section, text_section, table_section, values_section, symbols_section, strings_section, labels_section}
-use Rattle.elf_image.specs.Symbols.{null_symbol, first_reading, HasSymbols, symbols_read}
+use Rattle.elf_image.specs.Symbols.{null_symbol, first_reading, symbols_read}
 use Rattle.elf_image.specs.Image.{HasHeader, HasProgram, HasPrograms, HasSectionsPlace, HasSections, HasZeros, HasGaps, names_in, count_in, symbols_start, ReadsSymbols, EndsWell, HasSymbolTable, IsImage}
-use Rattle.elf_image.specs.Faults.{unless, header_at, layout_at, field_at, header_fault, program_fault, programs_fault, place_fault, section_fault, loaded_fault, described_fault, sections_fault, zeros_fault, labels_fault, gaps_fault, end_fault, read_fault, null_fault, others_fault, symbols_fault, length_fault, image_fault}
+use Rattle.elf_image.specs.Faults.{header_fault, program_fault, programs_fault, place_fault, section_fault, loaded_fault, described_fault, sections_fault, zeros_fault, labels_fault, gaps_fault, end_fault, read_fault, null_fault, others_fault, symbols_fault, length_fault, image_fault}
 use Rattle.elf_image.proofs.AgreeLemmas.{Agree, both, tested, below, equal, begins, in_header, in_layout, in_field}
 use Rattle.elf_image.proofs.SymbolLemmas.{symbols_told, symbols_none}
 
@@ -41,8 +40,8 @@ module _ (bytes : List ℕ) where
       (program_agrees values_header values_flags (values_offset (sizes_in bytes))))) in
       record {
         told = λ is.
-          (let facts = all.told is in
-          record { long = facts.0; text = facts.1.0; table = facts.1.1.0; values = facts.1.1.1 });
+            (let facts = all.told is in
+            record { long = facts.0; text = facts.1.0; table = facts.1.1.0; values = facts.1.1.1 });
         none = λ has. all.none (has.long, (has.text, (has.table, has.values)));
       }
 
@@ -69,28 +68,28 @@ module _ (bytes : List ℕ) where
       (both _ _ (section_agrees (section_at bytes 2) (table_section (table_offset (sizes_in bytes)) (sizes_in bytes).table))
       (section_agrees (section_at bytes 3) (values_section (values_offset (sizes_in bytes)) (sizes_in bytes).values)))) in
       let described = both _ _ (section_agrees (section_at bytes 4)
-        (symbols_section (symbols_offset (sizes_in bytes)) (Entries (symbols_offset (sizes_in bytes)) (sections_in bytes)) Any))
+      (symbols_section (symbols_offset (sizes_in bytes)) (Entries (symbols_offset (sizes_in bytes)) (sections_in bytes)) Any))
       (both _ _ (section_agrees (section_at bytes 5)
-        (strings_section (strings_offset (sizes_in bytes)) (Within (strings_offset (sizes_in bytes)) (sections_in bytes))))
+      (strings_section (strings_offset (sizes_in bytes)) (Within (strings_offset (sizes_in bytes)) (sections_in bytes))))
       (section_agrees (section_at bytes 6)
-        (labels_section (labels_offset (sizes_in bytes)) (Labels (labels_offset (sizes_in bytes)) (sections_in bytes))))) in
+      (labels_section (labels_offset (sizes_in bytes)) (Labels (labels_offset (sizes_in bytes)) (sections_in bytes))))) in
       let all = both _ _ loaded (both _ _ described (equal (sections_in bytes) (sections_offset (sizes_in bytes)) (I2 sections_place))) in
       record {
         told = λ is.
-          (let facts = all.told is in
-          record {
-            null = facts.0.0;
-            text = facts.0.1.0;
-            table = facts.0.1.1.0;
-            values = facts.0.1.1.1;
-            symbols = facts.1.0.0;
-            strings = facts.1.0.1.0;
-            labels = facts.1.0.1.1;
-            next = facts.1.1;
-          });
+            (let facts = all.told is in
+            record {
+              null = facts.0.0;
+              text = facts.0.1.0;
+              table = facts.0.1.1.0;
+              values = facts.0.1.1.1;
+              symbols = facts.1.0.0;
+              strings = facts.1.0.1.0;
+              labels = facts.1.0.1.1;
+              next = facts.1.1;
+            });
         none = λ has.
-          all.none
-          ((has.null, (has.text, (has.table, has.values))), ((has.symbols, (has.strings, has.labels)), has.next));
+            all.none
+            ((has.null, (has.text, (has.table, has.values))), ((has.symbols, (has.strings, has.labels)), has.next));
       }
 
   zeros_agree : (from to : ℕ) → Agree (HasZeros bytes from to) (zeros_fault bytes from to)
@@ -114,20 +113,20 @@ module _ (bytes : List ℕ) where
       (zeros_agree (labels_end (sizes_in bytes)) (sections_in bytes)))))))) in
       record {
         told = λ is.
-          (let facts = all.told is in
-          record {
-            headers = facts.0;
-            text = facts.1.0;
-            table = facts.1.1.0;
-            values = facts.1.1.1.0;
-            symbols = facts.1.1.1.1.0;
-            strings = facts.1.1.1.1.1.0;
-            labels = facts.1.1.1.1.1.1.0;
-            sections = facts.1.1.1.1.1.1.1;
-          });
+            (let facts = all.told is in
+            record {
+              headers = facts.0;
+              text = facts.1.0;
+              table = facts.1.1.0;
+              values = facts.1.1.1.0;
+              symbols = facts.1.1.1.1.0;
+              strings = facts.1.1.1.1.1.0;
+              labels = facts.1.1.1.1.1.1.0;
+              sections = facts.1.1.1.1.1.1.1;
+            });
         none = λ has.
-          all.none
-          (has.headers, (has.text, (has.table, (has.values, (has.symbols, (has.strings, (has.labels, has.sections)))))));
+            all.none
+            (has.headers, (has.text, (has.table, (has.values, (has.symbols, (has.strings, (has.labels, has.sections)))))));
       }
 
   end_agrees : (last : Reading) → Agree (EndsWell bytes last) (end_fault bytes last)
@@ -139,8 +138,8 @@ module _ (bytes : List ℕ) where
       (tested last.entered (I3 entry_place)))) in
       record {
         told = λ is.
-          (let facts = all.told is in
-          record { locals = facts.0; some = facts.1.0.0; zero = facts.1.0.1; all = facts.1.1.0; entry = facts.1.1.1 });
+            (let facts = all.told is in
+            record { locals = facts.0; some = facts.1.0.0; zero = facts.1.0.1; all = facts.1.1.0; entry = facts.1.1.1 });
         none = λ has. all.none (has.locals, ((has.some, has.zero), (has.all, has.entry)));
       }
 
@@ -158,15 +157,15 @@ module _ (bytes : List ℕ) where
   unfolding others_fault
   others_agree = record {
     told = λ is.
-      (let found = others_from (symbols_read (names_in bytes) bytes (entry_in bytes) (count_in bytes) first_reading (symbols_start bytes)) is in
-      record {
-        last = found.0;
-        symbols = symbols_told (names_in bytes) bytes (entry_in bytes) (count_in bytes) first_reading (symbols_start bytes) found.0 found.1.0;
-        ends = (end_agrees found.0).told found.1.1;
-      });
+        (let found = others_from (symbols_read (names_in bytes) bytes (entry_in bytes) (count_in bytes) first_reading (symbols_start bytes)) is in
+        record {
+          last = found.0;
+          symbols = symbols_told (names_in bytes) bytes (entry_in bytes) (count_in bytes) first_reading (symbols_start bytes) found.0 found.1.0;
+          ends = (end_agrees found.0).told found.1.1;
+        });
     none = λ has.
-      (let read = symbols_none (names_in bytes) bytes (entry_in bytes) (count_in bytes) first_reading (symbols_start bytes) has.last has.symbols in
-      ap (read_fault bytes) read ∙ (end_agrees has.last).none has.ends);
+        (let read = symbols_none (names_in bytes) bytes (entry_in bytes) (count_in bytes) first_reading (symbols_start bytes) has.last has.symbols in
+        ap (read_fault bytes) read ∙ (end_agrees has.last).none has.ends);
   }
 
   null_agrees : Agree (HasRows bytes (symbols_offset (sizes_in bytes)) null_symbol) (null_fault bytes)
@@ -179,8 +178,8 @@ module _ (bytes : List ℕ) where
       let all = both _ _ null_agrees others_agree in
       record {
         told = λ is.
-          (let facts = all.told is in
-          record { null = facts.0; last = facts.1.last; symbols = facts.1.symbols; ends = facts.1.ends });
+            (let facts = all.told is in
+            record { null = facts.0; last = facts.1.last; symbols = facts.1.symbols; ends = facts.1.ends });
         none = λ has. all.none (has.null, record { last = has.last; symbols = has.symbols; ends = has.ends });
       }
 
@@ -199,19 +198,19 @@ module _ (bytes : List ℕ) where
       (both _ _ symbols_agree length_agrees))))) in
       record {
         told = λ is.
-          (let facts = all.told is in
-          record {
-            header = facts.0;
-            programs = facts.1.0;
-            place = facts.1.1.0;
-            sections = facts.1.1.1.0;
-            gaps = facts.1.1.1.1.0;
-            symbols = facts.1.1.1.1.1.0;
-            whole = facts.1.1.1.1.1.1;
-          });
+            (let facts = all.told is in
+            record {
+              header = facts.0;
+              programs = facts.1.0;
+              place = facts.1.1.0;
+              sections = facts.1.1.1.0;
+              gaps = facts.1.1.1.1.0;
+              symbols = facts.1.1.1.1.1.0;
+              whole = facts.1.1.1.1.1.1;
+            });
         none = λ has.
-          all.none
-          (has.header, (has.programs, (has.place, (has.sections, (has.gaps, (has.symbols, has.whole))))));
+            all.none
+            (has.header, (has.programs, (has.place, (has.sections, (has.gaps, (has.symbols, has.whole))))));
       }
 
 -- bytes without a fault are an image

@@ -1,13 +1,12 @@
 -- Where the parts of a written image stand.
-use Rattle.std.proofs.Common.{◌≡◌, ℕ, zero, suc, ◌+◌, ◌-◌, ◌<◌, ◌≤◌, List, [], ◌∷◌, ◌++◌, length, refl, sym, ◌∙◌, ap, subst, arith}
+use Rattle.std.proofs.Common.{◌≡◌, ℕ, ◌+◌, ◌-◌, List, [], ◌∷◌, length, refl, arith}
 use Rattle.std.specs.Prelude.{replicate}
 use Rattle.byte_layout.specs.Stands.{Stands}
 use Rattle.byte_layout.specs.Joined.{aligned, joined, places, ends}
 use Rattle.byte_layout.proofs.JoinedLemmas.{joined_front, joined_stands, joined_gap, length-joined}
-use Rattle.byte_layout.proofs.StandsLemmas.{stands_all, stands_moved, stands_same}
-use Rattle.elf_image.specs.declared.layout.Sizes.{Sizes}
+use Rattle.byte_layout.proofs.StandsLemmas.{stands_all}
 use Rattle.elf_image.specs.declared.parts.ImageParts.{ImageParts}
-use Rattle.elf_image.specs.Rows.{rows_size, rows_bytes}
+use Rattle.elf_image.specs.Rows.{rows_bytes}
 use Rattle.elf_image.specs.Layout.{text_end, table_offset, table_end, values_offset, values_end, symbols_offset, symbols_end, strings_offset, strings_end, labels_offset, labels_end, sections_offset, labels}
 use Rattle.elf_image.specs.Written.{symbol_bytes, string_bytes, sizes_of, front_rows, all_sections, image_bytes}
 use Rattle.elf_image.proofs.WrittenRowLemmas.{length_rows}
@@ -53,8 +52,8 @@ record Three (all one two three : List ℕ) (table_at values_at end : ℕ) : Typ
 
 three : (front text table values : List ℕ) → length front ≡ 232
     → Three (joined 4096 front (text ∷ table ∷ values ∷ [])) text table values
-      (aligned 4096 (4096 + length text)) (aligned 4096 (aligned 4096 (4096 + length text) + length table))
-      (aligned 4096 (aligned 4096 (4096 + length text) + length table) + length values)
+    (aligned 4096 (4096 + length text)) (aligned 4096 (aligned 4096 (4096 + length text) + length table))
+    (aligned 4096 (aligned 4096 (4096 + length text) + length table) + length values)
 unfolding places ends
 three front text table values is =
     record {
@@ -81,11 +80,11 @@ record Four (all one two three four : List ℕ) (start symbols_at strings_at lab
 
 four : (front symbols strings labels sections : List ℕ) (start : ℕ) → length front ≡ start
     → let symbols_at = aligned 8 start in
-      let strings_at = aligned 8 (symbols_at + length symbols) in
-      let labels_at = aligned 8 (strings_at + length strings) in
-      let sections_at = aligned 8 (labels_at + length labels) in
-      Four (joined 8 front (symbols ∷ strings ∷ labels ∷ sections ∷ [])) symbols strings labels sections
-      start symbols_at strings_at labels_at sections_at (sections_at + length sections)
+    let strings_at = aligned 8 (symbols_at + length symbols) in
+    let labels_at = aligned 8 (strings_at + length strings) in
+    let sections_at = aligned 8 (labels_at + length labels) in
+    Four (joined 8 front (symbols ∷ strings ∷ labels ∷ sections ∷ [])) symbols strings labels sections
+    start symbols_at strings_at labels_at sections_at (sections_at + length sections)
 unfolding places ends
 four front symbols strings labels sections start is =
     record {

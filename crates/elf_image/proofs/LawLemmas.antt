@@ -1,38 +1,73 @@
 -- An image that was written is an image, and tells its parts.
-use Rattle.std.proofs.Common.{◌≡◌, ℕ, ◌+◌, ◌-◌, ◌*◌, ◌/◌, ◌%◌, ◌<◌, ◌≤◌, ◌^◌, ◌&&◌, ◌||◌, Bool, true, false, nat_eq, nat_le, List, [], ◌∷◌, ◌++◌, length, take, drop, slice_index, map, filter, None, IsTrue, refl, sym, ◌∙◌, ap, subst, arith, length-append}
+use Rattle.std.proofs.Common.{◌≡◌, ℕ, ◌+◌, ◌-◌, ◌*◌, ◌%◌, ◌<◌, ◌≤◌, ◌^◌, ◌&&◌, true, nat_eq, nat_le, List, [], ◌∷◌, length, take, drop, slice_index, map, filter, None, refl, sym, ◌∙◌, ap, subst, arith, length-append}
 use Rattle.std.specs.Prelude.{replicate}
-use Rattle.std.specs.List.{flat_map, list_any}
+use Rattle.std.specs.List.{flat_map}
 use Rattle.std.proofs.lemmas.Bool.{eq-eqb, le-leb, and_from}
 use Rattle.byte_layout.specs.Stands.{Stands}
-use Rattle.byte_layout.specs.Joined.{aligned}
 use Rattle.byte_layout.proofs.JoinedLemmas.{aligned_whole}
 use Rattle.byte_layout.proofs.StandsLemmas.{stands_all, stands_front, stands_back, stands_moved, stands_is}
 use Rattle.elf_image.specs.declared.layout.Sizes.{Sizes}
-use Rattle.elf_image.specs.declared.rows.Width.TheVariants.{Word, Xword}
 use Rattle.elf_image.specs.declared.rows.Wanted.TheVariants.{Any, Is, Machine, Within, Entries, Labels}
-use Rattle.elf_image.specs.declared.headers.Section.{Section}
-use Rattle.elf_image.specs.declared.symbols.Reading.{Reading}
 use Rattle.elf_image.specs.declared.parts.ImageParts.{ImageParts}
-use Rattle.elf_image.specs.Rows.{number_at, HasRows, rows_bytes, byte_rows, labels_size}
-use Rattle.elf_image.specs.Layout.{headers_size, text_offset, text_end, table_offset, table_end, values_offset, values_end, symbols_offset, symbols_end, strings_offset, strings_end, labels_offset, labels_end, sections_offset, labels, entry_in, sections_in, program_size, section_at, sizes_in}
+use Rattle.elf_image.specs.Rows.{HasRows, rows_bytes, byte_rows, labels_size}
+use Rattle.elf_image.specs.Layout.{text_offset, text_end, table_offset, table_end, values_offset, values_end, symbols_offset, symbols_end, strings_offset, strings_end, labels_offset, labels_end, sections_offset, labels, entry_in, sections_in, program_size, section_at, sizes_in}
 use Rattle.elf_image.specs.Headers.{ident_rows, header_rows, program_rows, text_flags, table_flags, values_flags, section_rows, null_section, text_section, table_section, values_section, symbols_section, strings_section, labels_section}
 use Rattle.elf_image.specs.Symbols.{null_symbol, first_reading, HasSymbols}
-use Rattle.elf_image.specs.Image.{HasHeader, HasProgram, HasPrograms, HasSectionsPlace, HasSections, HasZeros, HasGaps, names_in, count_in, symbols_start, ReadsSymbols, EndsWell, HasSymbolTable, IsImage}
+use Rattle.elf_image.specs.Image.{HasHeader, HasProgram, HasPrograms, HasSectionsPlace, HasSections, HasZeros, HasGaps, names_in, count_in, symbols_start, ReadsSymbols, HasSymbolTable, IsImage}
 use Rattle.elf_image.specs.Written.{parts_bytes, symbol_bytes, name_bytes, string_bytes, locals_of, sizes_of, image_bytes, AreParts}
-use Rattle.elf_image.specs.Contents.{symbol_places, lies_outside, symbol_at, outside_in, outside_of, Tells}
+use Rattle.elf_image.specs.Contents.{symbol_places, lies_outside, symbol_at, outside_in, Tells}
 use Rattle.elf_image.proofs.LaidLemmas.{Laid, laid}
-use Rattle.elf_image.proofs.FoundLemmas.{ident_allowed, header_allowed, machine_fits, program_allowed, IsSmall, section_allowed, null_small, loaded_small, symbols_small, names_small, Fronts, fronts, Backs, backs, AreNear, near, Found, found}
+use Rattle.elf_image.proofs.FoundLemmas.{ident_allowed, header_allowed, machine_fits, program_allowed, section_allowed, null_small, loaded_small, symbols_small, names_small, Fronts, fronts, Backs, backs, AreNear, near, Found, found}
 use Rattle.elf_image.proofs.PartLemmas.{parts_reading, parts_read, outside_read, parts_end, length_parts, entry_fits}
 use Rattle.elf_image.proofs.WrittenRowLemmas.{Allow, written_rows, bytes_stand}
 
 null_allowed : Allow null_symbol null_symbol
-null_allowed =
-    (refl, (omega arith, (refl,
-      (refl, (omega arith, (refl,
-        (refl, (omega arith, (refl,
-          (refl, (omega arith, (refl,
-            (refl, (omega arith, (refl,
-              (refl, (omega arith, (refl, tt))))))))))))))))))
+null_allowed = (
+  refl,
+  (
+    omega arith,
+    (
+      refl,
+      (
+        refl,
+        (
+          omega arith,
+          (
+            refl,
+            (
+              refl,
+              (
+                omega arith,
+                (
+                  refl,
+                  (
+                    refl,
+                    (
+                      omega arith,
+                      (
+                        refl,
+                        (
+                          refl,
+                          (
+                            omega arith,
+                            (
+                              refl,
+                              (refl, (omega arith, (refl, tt))),
+                            ),
+                          ),
+                        ),
+                      ),
+                    ),
+                  ),
+                ),
+              ),
+            ),
+          ),
+        ),
+      ),
+    ),
+  ),
+)
 
 module _ (parts : ImageParts) (bytes : List ℕ) (are : AreParts parts) (short : length bytes < 2 ^ 32) (is_laid : Laid parts bytes) where
   all_near : AreNear parts
@@ -57,11 +92,11 @@ module _ (parts : ImageParts) (bytes : List ℕ) (are : AreParts parts) (short :
         long = omega arith;
         ident = written_rows bytes 0 ident_rows ident_rows ident_allowed front.ident;
         fields = written_rows bytes 16 (header_rows Machine Any Any)
-          (header_rows (Is parts.machine) (Is parts.entry) (Is (sections_offset (sizes_of parts))))
-          (header_allowed parts.machine parts.entry (sections_offset (sizes_of parts)) Machine Any Any
+            (header_rows (Is parts.machine) (Is parts.entry) (Is (sections_offset (sizes_of parts))))
+            (header_allowed parts.machine parts.entry (sections_offset (sizes_of parts)) Machine Any Any
             (machine_fits parts.machine are.machine) (entry_fits parts.entry parts.symbols are.symbols are.entry) fits
             are.machine refl refl)
-          front.header;
+            front.header;
       }
 
   -- a part that is loaded
@@ -72,7 +107,7 @@ module _ (parts : ImageParts) (bytes : List ℕ) (are : AreParts parts) (short :
       written_rows bytes at (program_rows flags offset (Within offset (length bytes)) (Is (program_size bytes at)))
       (program_rows flags offset (Is size) (Is size))
       (program_allowed flags offset size (Within offset (length bytes)) (Is (program_size bytes at)) a b c
-        (le-leb (offset + size) (length bytes) within) (eq-eqb size (program_size bytes at) (sym read))) stands
+      (le-leb (offset + size) (length bytes) within) (eq-eqb size (program_size bytes at) (sym read))) stands
 
   has_programs : HasPrograms bytes
   has_programs =
@@ -85,13 +120,13 @@ module _ (parts : ImageParts) (bytes : List ℕ) (are : AreParts parts) (short :
       record {
         long = omega arith;
         text = has_program 64 text_flags text_offset (length parts.text) (omega arith) (omega arith) (omega arith) (omega arith)
-          (ap (λ sizes. sizes.text) is.sizes) front.text;
+            (ap (λ sizes. sizes.text) is.sizes) front.text;
         table = subst T (sym is.sizes)
-          (has_program 120 table_flags (table_offset (sizes_of parts)) (length parts.table) (omega arith) (omega arith) (omega arith) (omega arith)
-          (ap (λ sizes. sizes.table) is.sizes) front.table);
+            (has_program 120 table_flags (table_offset (sizes_of parts)) (length parts.table) (omega arith) (omega arith) (omega arith) (omega arith)
+            (ap (λ sizes. sizes.table) is.sizes) front.table);
         values = subst V (sym is.sizes)
-          (has_program 176 values_flags (values_offset (sizes_of parts)) (length parts.values) (omega arith) (omega arith) (omega arith) (omega arith)
-          (ap (λ sizes. sizes.values) is.sizes) front.values);
+            (has_program 176 values_flags (values_offset (sizes_of parts)) (length parts.values) (omega arith) (omega arith) (omega arith) (omega arith)
+            (ap (λ sizes. sizes.values) is.sizes) front.values);
       }
 
   has_place : HasSectionsPlace bytes
@@ -133,65 +168,65 @@ module _ (parts : ImageParts) (bytes : List ℕ) (are : AreParts parts) (short :
       let T : Sizes → Type 0 = λ s. HasRows bytes (section_at bytes 2) (section_rows (table_section (table_offset s) s.table)) in
       let V : Sizes → Type 0 = λ s. HasRows bytes (section_at bytes 3) (section_rows (values_section (values_offset s) s.values)) in
       let S : Sizes → Type 0 = λ s.
-        HasRows bytes (section_at bytes 4) (section_rows (symbols_section (symbols_offset s) (Entries (symbols_offset s) (sections_in bytes)) Any)) in
+      HasRows bytes (section_at bytes 4) (section_rows (symbols_section (symbols_offset s) (Entries (symbols_offset s) (sections_in bytes)) Any)) in
       let N : Sizes → Type 0 = λ s.
-        HasRows bytes (section_at bytes 5) (section_rows (strings_section (strings_offset s) (Within (strings_offset s) (sections_in bytes)))) in
+      HasRows bytes (section_at bytes 5) (section_rows (strings_section (strings_offset s) (Within (strings_offset s) (sections_in bytes)))) in
       let L : Sizes → Type 0 = λ s.
-        HasRows bytes (section_at bytes 6) (section_rows (labels_section (labels_offset s) (Labels (labels_offset s) (sections_in bytes)))) in
+      HasRows bytes (section_at bytes 6) (section_rows (labels_section (labels_offset s) (Labels (labels_offset s) (sections_in bytes)))) in
       let symbols_end_fits : nat_le (symbols_offset (sizes_of parts) + (sizes_of parts).symbols) (sections_in bytes) ≡ true
       = le-leb (symbols_offset (sizes_of parts) + (sizes_of parts).symbols) (sections_in bytes) (omega arith) in
       let some : nat_le 24 (sizes_of parts).symbols ≡ true = le-leb 24 (sizes_of parts).symbols (omega arith) in
       let entries : nat_eq ((sizes_of parts).symbols % 24) 0 ≡ true = eq-eqb ((sizes_of parts).symbols % 24) 0 (omega arith) in
       record {
         null = written_rows bytes (section_at bytes 0) (section_rows null_section) (section_rows null_section)
-          (section_allowed null_section (Is 0) (Is 0) null_small refl refl)
-          (stands_moved bytes (sections_offset (sizes_of parts)) (section_at bytes 0) (rows_bytes (section_rows null_section)) (omega arith) back.null);
+            (section_allowed null_section (Is 0) (Is 0) null_small refl refl)
+            (stands_moved bytes (sections_offset (sizes_of parts)) (section_at bytes 0) (rows_bytes (section_rows null_section)) (omega arith) back.null);
         text = subst X (sym is.sizes)
-          (written_rows bytes (section_at bytes 1) (section_rows text_is) (section_rows text_is)
-          (section_allowed text_is (Is (length parts.text)) (Is 0)
+            (written_rows bytes (section_at bytes 1) (section_rows text_is) (section_rows text_is)
+            (section_allowed text_is (Is (length parts.text)) (Is 0)
             (loaded_small 1 6 text_offset (length parts.text) 16 (omega arith) (omega arith) (omega arith) (omega arith) (omega arith))
             (eq-eqb (length parts.text) (length parts.text) refl) refl)
-          (stands_moved bytes (sections_offset (sizes_of parts) + 64) (section_at bytes 1) (rows_bytes (section_rows text_is)) (omega arith) back.text));
+            (stands_moved bytes (sections_offset (sizes_of parts) + 64) (section_at bytes 1) (rows_bytes (section_rows text_is)) (omega arith) back.text));
         table = subst T (sym is.sizes)
-          (written_rows bytes (section_at bytes 2) (section_rows table_is) (section_rows table_is)
-          (section_allowed table_is (Is (length parts.table)) (Is 0)
+            (written_rows bytes (section_at bytes 2) (section_rows table_is) (section_rows table_is)
+            (section_allowed table_is (Is (length parts.table)) (Is 0)
             (loaded_small 7 2 (table_offset (sizes_of parts)) (length parts.table) 8 (omega arith) (omega arith) (omega arith) (omega arith) (omega arith))
             (eq-eqb (length parts.table) (length parts.table) refl) refl)
-          (stands_moved bytes (sections_offset (sizes_of parts) + 128) (section_at bytes 2) (rows_bytes (section_rows table_is)) (omega arith) back.table));
+            (stands_moved bytes (sections_offset (sizes_of parts) + 128) (section_at bytes 2) (rows_bytes (section_rows table_is)) (omega arith) back.table));
         values = subst V (sym is.sizes)
-          (written_rows bytes (section_at bytes 3) (section_rows values_is) (section_rows values_is)
-          (section_allowed values_is (Is (length parts.values)) (Is 0)
+            (written_rows bytes (section_at bytes 3) (section_rows values_is) (section_rows values_is)
+            (section_allowed values_is (Is (length parts.values)) (Is 0)
             (loaded_small 18 3 (values_offset (sizes_of parts)) (length parts.values) 16 (omega arith) (omega arith) (omega arith) (omega arith) (omega arith))
             (eq-eqb (length parts.values) (length parts.values) refl) refl)
-          (stands_moved bytes (sections_offset (sizes_of parts) + 192) (section_at bytes 3) (rows_bytes (section_rows values_is)) (omega arith) back.values));
+            (stands_moved bytes (sections_offset (sizes_of parts) + 192) (section_at bytes 3) (rows_bytes (section_rows values_is)) (omega arith) back.values));
         symbols = subst S (sym is.sizes)
-          (written_rows bytes (section_at bytes 4)
-          (section_rows (symbols_section (symbols_offset (sizes_of parts)) (Entries (symbols_offset (sizes_of parts)) (sections_in bytes)) Any))
-          (section_rows symbols_is)
-          (section_allowed symbols_is (Entries (symbols_offset (sizes_of parts)) (sections_in bytes)) Any
+            (written_rows bytes (section_at bytes 4)
+            (section_rows (symbols_section (symbols_offset (sizes_of parts)) (Entries (symbols_offset (sizes_of parts)) (sections_in bytes)) Any))
+            (section_rows symbols_is)
+            (section_allowed symbols_is (Entries (symbols_offset (sizes_of parts)) (sections_in bytes)) Any
             (symbols_small (symbols_offset (sizes_of parts)) (sizes_of parts).symbols (locals_of parts.symbols) (omega arith) (omega arith) bounds.locals)
             (and_from (nat_le (symbols_offset (sizes_of parts) + (sizes_of parts).symbols) (sections_in bytes) && nat_le 24 (sizes_of parts).symbols)
-              (nat_eq ((sizes_of parts).symbols % 24) 0)
-              (and_from (nat_le (symbols_offset (sizes_of parts) + (sizes_of parts).symbols) (sections_in bytes)) (nat_le 24 (sizes_of parts).symbols)
-                symbols_end_fits some) entries) refl)
-          (stands_moved bytes (sections_offset (sizes_of parts) + 256) (section_at bytes 4) (rows_bytes (section_rows symbols_is)) (omega arith) back.symbols));
+            (nat_eq ((sizes_of parts).symbols % 24) 0)
+            (and_from (nat_le (symbols_offset (sizes_of parts) + (sizes_of parts).symbols) (sections_in bytes)) (nat_le 24 (sizes_of parts).symbols)
+            symbols_end_fits some) entries) refl)
+            (stands_moved bytes (sections_offset (sizes_of parts) + 256) (section_at bytes 4) (rows_bytes (section_rows symbols_is)) (omega arith) back.symbols));
         strings = subst N (sym is.sizes)
-          (written_rows bytes (section_at bytes 5)
-          (section_rows (strings_section (strings_offset (sizes_of parts)) (Within (strings_offset (sizes_of parts)) (sections_in bytes))))
-          (section_rows strings_is)
-          (section_allowed strings_is (Within (strings_offset (sizes_of parts)) (sections_in bytes)) (Is 0)
+            (written_rows bytes (section_at bytes 5)
+            (section_rows (strings_section (strings_offset (sizes_of parts)) (Within (strings_offset (sizes_of parts)) (sections_in bytes))))
+            (section_rows strings_is)
+            (section_allowed strings_is (Within (strings_offset (sizes_of parts)) (sections_in bytes)) (Is 0)
             (names_small 32 (strings_offset (sizes_of parts)) (sizes_of parts).strings (omega arith) (omega arith) (omega arith))
             (le-leb (strings_offset (sizes_of parts) + (sizes_of parts).strings) (sections_in bytes) (omega arith)) refl)
-          (stands_moved bytes (sections_offset (sizes_of parts) + 320) (section_at bytes 5) (rows_bytes (section_rows strings_is)) (omega arith) back.strings));
+            (stands_moved bytes (sections_offset (sizes_of parts) + 320) (section_at bytes 5) (rows_bytes (section_rows strings_is)) (omega arith) back.strings));
         labels = subst L (sym is.sizes)
-          (written_rows bytes (section_at bytes 6)
-          (section_rows (labels_section (labels_offset (sizes_of parts)) (Labels (labels_offset (sizes_of parts)) (sections_in bytes))))
-          (section_rows labels_is)
-          (section_allowed labels_is (Labels (labels_offset (sizes_of parts)) (sections_in bytes)) (Is 0)
+            (written_rows bytes (section_at bytes 6)
+            (section_rows (labels_section (labels_offset (sizes_of parts)) (Labels (labels_offset (sizes_of parts)) (sections_in bytes))))
+            (section_rows labels_is)
+            (section_allowed labels_is (Labels (labels_offset (sizes_of parts)) (sections_in bytes)) (Is 0)
             (names_small 40 (labels_offset (sizes_of parts)) labels_size (omega arith) (omega arith) (omega arith))
             (and_from (nat_le (labels_offset (sizes_of parts) + 50) (sections_in bytes)) true
-              (le-leb (labels_offset (sizes_of parts) + 50) (sections_in bytes) (omega arith)) refl) refl)
-          (stands_moved bytes (sections_offset (sizes_of parts) + 384) (section_at bytes 6) (rows_bytes (section_rows labels_is)) (omega arith) back.labels));
+            (le-leb (labels_offset (sizes_of parts) + 50) (sections_in bytes) (omega arith)) refl) refl)
+            (stands_moved bytes (sections_offset (sizes_of parts) + 384) (section_at bytes 6) (rows_bytes (section_rows labels_is)) (omega arith) back.labels));
         next = is.sections ∙ ap sections_offset (sym is.sizes);
       }
 
@@ -218,7 +253,7 @@ module _ (parts : ImageParts) (bytes : List ℕ) (are : AreParts parts) (short :
         strings = subst N (sym is.sizes) (zeros (strings_end (sizes_of parts)) (labels_offset (sizes_of parts)) is_laid.strings_gap);
         labels = subst L (sym is.sizes) (bytes_stand bytes (labels_offset (sizes_of parts)) labels is_laid.labels);
         sections = subst E (sym is.sizes)
-          (subst P (sym is.sections) (zeros (labels_end (sizes_of parts)) (sections_offset (sizes_of parts)) is_laid.labels_gap));
+            (subst P (sym is.sections) (zeros (labels_end (sizes_of parts)) (sections_offset (sizes_of parts)) is_laid.labels_gap));
       }
 
   names_are : names_in bytes ≡ string_bytes parts.symbols
@@ -273,8 +308,8 @@ module _ (parts : ImageParts) (bytes : List ℕ) (are : AreParts parts) (short :
   all_read : ReadsSymbols bytes (parts_reading (entry_in bytes) first_reading parts.symbols)
   all_read =
       let C : ℕ → Type 0 = λ count.
-        HasSymbols (names_in bytes) bytes (entry_in bytes) count first_reading (symbols_start bytes)
-        (parts_reading (entry_in bytes) first_reading parts.symbols) in
+      HasSymbols (names_in bytes) bytes (entry_in bytes) count first_reading (symbols_start bytes)
+      (parts_reading (entry_in bytes) first_reading parts.symbols) in
       subst C (sym count_is)
       (parts_read (names_in bytes) bytes (entry_in bytes) None parts.symbols first_reading (symbols_start bytes)
       (refl, refl) are.symbols are.order others_stand names_stand names_near)
@@ -323,7 +358,7 @@ module _ (parts : ImageParts) (bytes : List ℕ) (are : AreParts parts) (short :
         table = ap (λ s. take s.table (drop (table_offset s) bytes)) is.sizes ∙ stands_is bytes parts.table (table_offset (sizes_of parts)) is_laid.table;
         values = ap (λ s. take s.values (drop (values_offset s) bytes)) is.sizes ∙ stands_is bytes parts.values (values_offset (sizes_of parts)) is_laid.values;
         outside = ap (λ count. map (symbol_at bytes) (filter (lies_outside bytes) (symbol_places count (symbols_start bytes)))) count_is
-          ∙ outside_read (names_in bytes) bytes (entry_in bytes) parts.symbols (symbols_start bytes) 1 are.symbols others_stand names_stand names_near;
+            ∙ outside_read (names_in bytes) bytes (entry_in bytes) parts.symbols (symbols_start bytes) 1 are.symbols others_stand names_stand names_near;
       }
 
 -- parts that can be written give an image

@@ -1,5 +1,5 @@
 -- Each part ends before the next one, and all before the section headers.
-use Rattle.std.proofs.Common.{ℕ, ◌+◌, ◌≤◌, arith}
+use Rattle.std.proofs.Common.{ℕ, ◌≤◌, arith}
 use Rattle.byte_layout.proofs.JoinedLemmas.{aligned-le}
 use Rattle.elf_image.specs.declared.layout.Sizes.{Sizes}
 use Rattle.elf_image.specs.Layout.{text_end, table_offset, table_end, values_offset, values_end, symbols_offset, symbols_end, strings_offset, strings_end, labels_offset, labels_end, sections_offset}

@@ -3,7 +3,6 @@ pub mod SymbolLemmas
 pub mod RowLemmas
 pub mod StageLemmas
 pub mod AgreeLemmas
-
 pub mod GapLemmas
 pub mod ImageLemmas
 pub mod OutsideLemmas

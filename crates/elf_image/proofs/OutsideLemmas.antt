@@ -1,10 +1,9 @@
 -- The symbols that lie outside stand behind all others.
-use Rattle.std.proofs.Common.{◌≡◌, ℕ, zero, suc, ◌+◌, ◌-◌, ◌*◌, ◌<◌, ◌≤◌, Bool, true, false, nat_eq, List, [], ◌∷◌, map, filter, Option, Some, None, IsTrue, inl, inr, refl, sym, ◌∙◌, ap, arith}
+use Rattle.std.proofs.Common.{◌≡◌, ℕ, zero, suc, ◌+◌, ◌-◌, ◌*◌, ◌<◌, ◌≤◌, true, false, nat_eq, List, map, filter, Some, None, inl, inr, refl, sym, ◌∙◌, ap, arith}
 use Rattle.std.specs.List.{slice_get}
 use Rattle.std.specs.Option.{option_map}
 use Rattle.std.proofs.lemmas.Option.{slice_get-map}
-use Rattle.std.proofs.lemmas.Bool.{cases_Bool, eqb-true, eq-eqb}
-use Rattle.elf_image.specs.declared.group.Group.{Group}
+use Rattle.std.proofs.lemmas.Bool.{cases_Bool, eqb-true}
 use Rattle.elf_image.specs.declared.group.Group.TheVariants.{Outside}
 use Rattle.elf_image.specs.declared.rows.Width.TheVariants.{Char}
 use Rattle.elf_image.specs.declared.symbols.Reading.{Reading}
@@ -79,7 +78,7 @@ module _ (names bytes : List ℕ) (entry : ℕ) where
 pub outside_next : (bytes : List ℕ) (count start index : ℕ) → index < count
     → lies_outside bytes (start + 24 * index) ≡ false
     → filter (lies_outside bytes) (symbol_places (count - index) (start + 24 * index))
-      ≡ filter (lies_outside bytes) (symbol_places (count - (index + 1)) (start + 24 * (index + 1)))
+    ≡ filter (lies_outside bytes) (symbol_places (count - (index + 1)) (start + 24 * (index + 1)))
 outside_next bytes count start index inside is =
     let one : count - index ≡ suc (count - (index + 1)) = omega arith in
     let place : start + 24 * index + 24 ≡ start + 24 * (index + 1) = omega arith in
@@ -87,7 +86,7 @@ outside_next bytes count start index inside is =
 
 pub outside_found : (bytes : List ℕ) (index : ℕ) → IsImage bytes → index < count_in bytes
     → filter (lies_outside bytes) (symbol_places (count_in bytes - index) (symbols_start bytes + 24 * index))
-      ≡ filter (lies_outside bytes) (symbol_places (count_in bytes) (symbols_start bytes))
+    ≡ filter (lies_outside bytes) (symbol_places (count_in bytes) (symbols_start bytes))
     → lies_outside bytes (symbols_start bytes + 24 * index) ≡ true
     → IsFirstOutside bytes index
 unfolding outside_in
@@ -100,13 +99,13 @@ outside_found bytes index image inside before here =
 
 pub outside_none : (bytes : List ℕ) (index : ℕ) → index ≡ count_in bytes
     → filter (lies_outside bytes) (symbol_places (count_in bytes - index) (symbols_start bytes + 24 * index))
-      ≡ filter (lies_outside bytes) (symbol_places (count_in bytes) (symbols_start bytes))
+    ≡ filter (lies_outside bytes) (symbol_places (count_in bytes) (symbols_start bytes))
     → IsFirstOutside bytes index
 unfolding outside_in
 outside_none bytes index past before =
     let none : count_in bytes - index ≡ 0 = omega arith in
     let empty : filter (lies_outside bytes) (symbol_places (count_in bytes - index) (symbols_start bytes + 24 * index))
-      ≡ symbol_places (count_in bytes - index) (symbols_start bytes + 24 * index)
+    ≡ symbol_places (count_in bytes - index) (symbols_start bytes + 24 * index)
     = rw none refl in
     record { within = omega arith; all = ap (map (symbol_at bytes)) (sym before ∙ empty) }
 
@@ -132,7 +131,7 @@ outside_get bytes first index is inside =
     ap (λ all. slice_get all index) is.all
     ∙ slice_get-map (symbol_at bytes) (symbol_places (count_in bytes - first) (symbols_start bytes + 24 * first)) index
     ∙ ap (option_map (symbol_at bytes))
-      (places_get (count_in bytes - first) (symbols_start bytes + 24 * first) index (omega arith) ∙ ap (λ n. Some n) place)
+    (places_get (count_in bytes - first) (symbols_start bytes + 24 * first) index (omega arith) ∙ ap (λ n. Some n) place)
 
 pub outside_past : (bytes : List ℕ) (first index : ℕ) → IsFirstOutside bytes first → count_in bytes ≤ first + index
     → slice_get (outside_in bytes) index ≡ None

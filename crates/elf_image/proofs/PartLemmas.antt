@@ -1,22 +1,22 @@
 -- Symbols that were written are read back.
-use Rattle.std.proofs.Common.{◌≡◌, ℕ, zero, suc, ◌+◌, ◌-◌, ◌*◌, ◌<◌, ◌≤◌, ◌^◌, Bool, true, false, ◌&&◌, ◌||◌, not, nat_le, nat_lt, nat_eq, List, [], ◌∷◌, ◌++◌, length, map, filter, Option, Some, None, IsTrue, if◌then◌else◌, inl, inr, refl, sym, ◌∙◌, ap, subst, arith, length-append, add_assoc}
+use Rattle.std.proofs.Common.{◌≡◌, ℕ, ◌+◌, ◌*◌, ◌<◌, ◌≤◌, ◌^◌, Bool, true, false, ◌&&◌, ◌||◌, nat_eq, List, [], ◌∷◌, length, map, filter, Option, Some, None, if◌then◌else◌, inl, inr, refl, sym, ◌∙◌, ap, subst, arith, length-append, add_assoc}
 use Rattle.std.specs.Prelude.{All, count_by}
 use Rattle.std.specs.List.{flat_map, list_any}
-use Rattle.std.proofs.lemmas.Bool.{cases_Bool, or_cases, lt-ltb, le-leb, eq-eqb, eqb-true, eqb-false, ne_eqb, and_parts}
+use Rattle.std.proofs.lemmas.Bool.{cases_Bool, or_cases, lt-ltb, eq-eqb, eqb-true, eqb-false, ne_eqb, and_parts}
 use Rattle.std.proofs.lemmas.List.Sums.{sum_by-cons}
 use Rattle.std.proofs.lemmas.List.Elements.{All-head, All-tail}
 use Rattle.byte_layout.specs.Stands.{Stands}
 use Rattle.byte_layout.proofs.StandsLemmas.{stands_front, stands_back, stands_moved}
 use Rattle.elf_image.specs.declared.group.Group.{Group}
-use Rattle.elf_image.specs.declared.group.Group.TheVariants.{LocalFunctions, Outside}
+use Rattle.elf_image.specs.declared.group.Group.TheVariants.{LocalFunctions}
 use Rattle.elf_image.specs.declared.rows.Width.TheVariants.{Char, Word, Xword}
 use Rattle.elf_image.specs.declared.rows.Wanted.{Wanted}
 use Rattle.elf_image.specs.declared.rows.Wanted.TheVariants.{Any, Is, Above, InGroup}
 use Rattle.elf_image.specs.declared.symbols.Reading.{Reading}
 use Rattle.elf_image.specs.declared.parts.SymbolPart.{SymbolPart}
-use Rattle.elf_image.specs.Groups.{rank, info_of, group_of, section_of, is_function, is_local}
+use Rattle.elf_image.specs.Groups.{rank, info_of, section_of, is_function, is_local}
 use Rattle.elf_image.specs.Rows.{number_at, meets, HasRows, rows_bytes}
-use Rattle.elf_image.specs.Symbols.{symbol_rows, address_in, size_in, group_at, wanted_at, next_reading, reading_behind, HasSymbols}
+use Rattle.elf_image.specs.Symbols.{symbol_rows, address_in, size_in, group_at, next_reading, reading_behind, HasSymbols}
 use Rattle.elf_image.specs.Parts.{group_of_part, function_group, value_group, IsPart, FollowsLast, AreOrdered, is_entry}
 use Rattle.elf_image.specs.Written.{part_rows, parts_bytes, name_bytes}
 use Rattle.elf_image.specs.Contents.{symbol_places, lies_outside, name_in, outside_of}
@@ -121,13 +121,52 @@ record HasPart (bytes : List ℕ) (at place : ℕ) (part : SymbolPart) : Type 0 
 allowed : (place : ℕ) (part : SymbolPart) (info address size : Wanted) → IsPart part → place < 2 ^ 32
     → meets info (info_of (group_of_part part)) ≡ true → meets address part.at ≡ true → meets size part.size ≡ true
     → Allow (symbol_rows place info (group_of_part part) address size) (part_rows place part)
-allowed place part info address size is near info_met address_met size_met =
-    (refl, (near, (eq-eqb place place refl,
-      (refl, (info_fits (group_of_part part), (info_met,
-        (refl, (omega arith, (refl,
-          (refl, (section_fits (group_of_part part), (eq-eqb (section_of (group_of_part part)) (section_of (group_of_part part)) refl,
-            (refl, (is.address, (address_met,
-              (refl, (is.size, (size_met, tt))))))))))))))))))
+allowed place part info address size is near info_met address_met size_met = (
+  refl,
+  (
+    near,
+    (
+      eq-eqb place place refl,
+      (
+        refl,
+        (
+          info_fits (group_of_part part),
+          (
+            info_met,
+            (
+              refl,
+              (
+                omega arith,
+                (
+                  refl,
+                  (
+                    refl,
+                    (
+                      section_fits (group_of_part part),
+                      (
+                        eq-eqb (section_of (group_of_part part)) (section_of (group_of_part part)) refl,
+                        (
+                          refl,
+                          (
+                            is.address,
+                            (
+                              address_met,
+                              (refl, (is.size, (size_met, tt))),
+                            ),
+                          ),
+                        ),
+                      ),
+                    ),
+                  ),
+                ),
+              ),
+            ),
+          ),
+        ),
+      ),
+    ),
+  ),
+)
 
 part_fields : (bytes : List ℕ) (at place : ℕ) (part : SymbolPart) → IsPart part → place < 2 ^ 32
     → Stands bytes at (rows_bytes (part_rows place part)) → HasPart bytes at place part
@@ -183,21 +222,21 @@ module _ (names bytes : List ℕ) (entry : ℕ) where
       (symbol_rows reading.place (InGroup reading.group) (group_of_part part) (address_in reading (group_of_part part)) (size_in (group_of_part part)))
       (part_rows reading.place part)
       (allowed reading.place part (InGroup reading.group) (address_in reading (group_of_part part)) (size_in (group_of_part part)) one place_fits
-        (reached reading.group (group_of_part part) (group_reached before reading part is order.0))
-        (address_met before reading part is order.0)
-        (size_met part one)) here in
+      (reached reading.group (group_of_part part) (group_reached before reading part is order.0))
+      (address_met before reading part is order.0)
+      (size_met part one)) here in
       let P : Group → Type 0 = λ group.
-        HasRows bytes at (symbol_rows reading.place (InGroup reading.group) group (address_in reading group) (size_in group)) in
+      HasRows bytes at (symbol_rows reading.place (InGroup reading.group) group (address_in reading group) (size_in group)) in
       let end = reading.place + length part.name + 1 in
       let name = name_ends names reading.place part.name one.name (stands_front names reading.place (name_bytes part) (flat_map name_bytes parts) named) in
       let next = next_reading entry reading (group_of_part part) part.at (reading.place + length part.name + 1) in
       let same : reading_behind bytes entry reading at (reading.place + length part.name + 1)
-        ≡ next_reading entry reading (group_of_part part) part.at (reading.place + length part.name + 1)
+      ≡ next_reading entry reading (group_of_part part) part.at (reading.place + length part.name + 1)
       = ap (λ group. next_reading entry reading group (number_at bytes (at + 8) Xword) (reading.place + length part.name + 1)) fields.group
       ∙ ap (λ address. next_reading entry reading (group_of_part part) address (reading.place + length part.name + 1)) fields.address in
       let Q : Reading → Type 0 = λ r.
-        HasSymbols names bytes entry (length parts) r (at + 24)
-        (parts_reading entry (next_reading entry reading (group_of_part part) part.at (reading.place + length part.name + 1)) parts) in
+      HasSymbols names bytes entry (length parts) r (at + 24)
+      (parts_reading entry (next_reading entry reading (group_of_part part) part.at (reading.place + length part.name + 1)) parts) in
       let rest = parts_read (Some part) parts
       (next_reading entry reading (group_of_part part) part.at (reading.place + length part.name + 1)) (at + 24) (refl, refl)
       (All-tail IsPart part parts all) order.1 (parts_behind part parts at reading.place stands)
@@ -209,7 +248,7 @@ module _ (names bytes : List ℕ) (entry : ℕ) where
       → Stands bytes at (parts_bytes place parts) → Stands names place (flat_map name_bytes parts)
       → place + length (flat_map name_bytes parts) ≤ 2 ^ 32
       → map (λ n. (name_in names (number_at bytes n Word), number_at bytes (n + 8) Xword))
-        (filter (lies_outside bytes) (symbol_places (length parts) at)) ≡ outside_of parts
+      (filter (lies_outside bytes) (symbol_places (length parts) at)) ≡ outside_of parts
   outside_read [] at place all stands named near = refl
   outside_read (part ∷ parts) at place all stands named near =
       let one : IsPart part = All-head IsPart part parts all in
@@ -251,8 +290,8 @@ parts_end entry reading (part ∷ parts) =
     record {
       place = omega (arith, rest.place, length-append (name_bytes part) (flat_map name_bytes parts), length-append part.name (0 ∷ []));
       locals = rest.locals
-        ∙ add_assoc reading.locals (if is_local (group_of_part part) then 1 else 0) (count_by (λ p. is_local (group_of_part p)) parts)
-        ∙ ap (λ n. reading.locals + n) (sym (sum_by-cons (λ p. if is_local (group_of_part p) then 1 else 0) part parts));
+          ∙ add_assoc reading.locals (if is_local (group_of_part part) then 1 else 0) (count_by (λ p. is_local (group_of_part p)) parts)
+          ∙ ap (λ n. reading.locals + n) (sym (sum_by-cons (λ p. if is_local (group_of_part p) then 1 else 0) part parts));
       entered = rest.entered ∙ or_either reading.entered (is_entry entry part) (list_any (is_entry entry) parts);
     }
 

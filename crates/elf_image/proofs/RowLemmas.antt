@@ -1,5 +1,5 @@
 -- Rows as facts and as a first fault.
-use Rattle.std.proofs.Common.{◌≡◌, ℕ, ◌+◌, Bool, true, false, cond, List, [], ◌∷◌, Option, Some, None, IsTrue, inl, inr, refl, sym, ◌∙◌, ap}
+use Rattle.std.proofs.Common.{◌≡◌, ℕ, ◌+◌, List, [], ◌∷◌, Some, None, inl, inr, refl}
 use Rattle.std.proofs.lemmas.Bool.{cases_Bool}
 use Rattle.elf_image.specs.declared.rows.Row.{Row}
 use Rattle.elf_image.specs.Rows.{size_of, number_at, meets, HasRows, rows_fault}

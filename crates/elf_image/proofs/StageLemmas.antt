@@ -1,13 +1,11 @@
 -- What a part that was read without a fault tells the later steps.
-use Rattle.std.proofs.Common.{◌≡◌, ℕ, ◌+◌, ◌≤◌, ◌%◌, ◌&&◌, ◌==◌, nat_le, List, length, Option, Some, None, IsTrue, refl, ap, subst, arith}
-use Rattle.std.specs.Option.{option_map}
+use Rattle.std.proofs.Common.{◌≡◌, ℕ, ◌+◌, ◌≤◌, ◌%◌, ◌&&◌, ◌==◌, nat_le, List, length, Option, Some, None, IsTrue, refl, subst, arith}
 use Rattle.std.proofs.lemmas.Bool.{leb-true, and_parts}
 use Rattle.elf_image.specs.declared.rows.Width.TheVariants.{Xword}
 use Rattle.elf_image.specs.declared.rows.Wanted.{Wanted}
 use Rattle.elf_image.specs.declared.rows.Wanted.TheVariants.{Any, Is, Within, Entries}
-use Rattle.elf_image.specs.declared.rows.Row.{Row}
 use Rattle.elf_image.specs.declared.headers.Section.{Section}
-use Rattle.elf_image.specs.Rows.{number_at, meets, HasRows, rows_fault}
+use Rattle.elf_image.specs.Rows.{number_at, meets, HasRows}
 use Rattle.elf_image.specs.Layout.{program_size, section_size, section_at, sections_in, sizes_in, symbols_offset}
 use Rattle.elf_image.specs.Headers.{program_rows, section_rows, symbols_section}
 use Rattle.elf_image.specs.Image.{IsImage, IsReady}

@@ -1,5 +1,5 @@
 -- Symbols that are read one by one.
-use Rattle.std.proofs.Common.{◌≡◌, ℕ, zero, suc, ◌+◌, ◌-◌, ◌*◌, ◌<◌, List, Option, Some, None, Result, Ok, Err, refl, sym, ap, arith}
+use Rattle.std.proofs.Common.{◌≡◌, ℕ, zero, suc, ◌+◌, ◌-◌, ◌*◌, ◌<◌, List, Option, Some, None, Result, Ok, refl, ap, arith}
 use Rattle.elf_image.specs.declared.symbols.Reading.{Reading}
 use Rattle.elf_image.specs.Rows.{HasRows, rows_fault}
 use Rattle.elf_image.specs.Symbols.{wanted_at, name_end, reading_behind, HasSymbols, read_if, symbol_read, read_on, symbols_read}
@@ -10,7 +10,7 @@ module _ (names bytes : List ℕ) (entry : ℕ) where
   pub reads_next : (count index start : ℕ) (reading next : Reading) → index < count
       → symbol_read names bytes entry reading (start + 24 * index) ≡ Some next
       → symbols_read names bytes entry (count - index) reading (start + 24 * index)
-        ≡ symbols_read names bytes entry (count - (index + 1)) next (start + 24 * (index + 1))
+      ≡ symbols_read names bytes entry (count - (index + 1)) next (start + 24 * (index + 1))
   reads_next count index start reading next inside is =
       let one : count - index ≡ suc (count - (index + 1)) = omega arith in
       let place : start + 24 * index + 24 ≡ start + 24 * (index + 1) = omega arith in
@@ -53,9 +53,16 @@ module _ (names bytes : List ℕ) (entry : ℕ) where
   symbols_told (suc count) reading at last is =
       let parts = split_on (symbol_read names bytes entry reading at) at
       (λ next. symbols_read names bytes entry count next (at + 24)) last is in
-      let one : IsReadAs reading at parts.0 = read_as reading at parts.0 parts.1.0 in
-      (one.rows, (one.place, (one.name,
-        symbols_told count (reading_behind bytes entry reading at one.place) (at + 24) last (rw one.is parts.1.1))))
+      let one : IsReadAs reading at parts.0 = read_as reading at parts.0 parts.1.0 in (
+        one.rows,
+        (
+          one.place,
+          (
+            one.name,
+            symbols_told count (reading_behind bytes entry reading at one.place) (at + 24) last (rw one.is parts.1.1),
+          ),
+        ),
+      )
 
   -- and symbols that stand there are read to the end
   pub symbols_none : (count : ℕ) (reading : Reading) (at : ℕ) (last : Reading)

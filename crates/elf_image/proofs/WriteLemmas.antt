@@ -9,7 +9,7 @@ use Rattle.elf_image.specs.declared.parts.SymbolPart.{SymbolPart}
 use Rattle.elf_image.specs.declared.parts.ImageParts.{ImageParts}
 use Rattle.elf_image.specs.Rows.{rows_bytes}
 use Rattle.elf_image.specs.Symbols.{null_symbol}
-use Rattle.elf_image.specs.Written.{part_rows, parts_bytes, name_bytes, symbol_bytes, string_bytes, image_bytes, AreParts}
+use Rattle.elf_image.specs.Written.{part_rows, parts_bytes, name_bytes, string_bytes, image_bytes, AreParts}
 use Rattle.elf_image.proofs.WrittenRowLemmas.{length_joined_rows}
 use Rattle.elf_image.proofs.LaidLemmas.{laid}
 use Rattle.elf_image.proofs.FoundLemmas.{AreNear, near}
@@ -41,10 +41,10 @@ module _ (symbols : List SymbolPart) where
       = ap (λ r. place + length (flat_map name_bytes r)) (sym rest) ∙ has.names in
       record {
         told = ap (λ front. front ++ parts_bytes (place + (length part.name + 1)) (drop (index + 1) symbols)) is
-          ∙ append_assoc bytes (rows_bytes (part_rows place part)) (parts_bytes (place + (length part.name + 1)) (drop (index + 1) symbols))
-          ∙ ap (λ n. bytes ++ (rows_bytes (part_rows place part) ++ parts_bytes n (drop (index + 1) symbols))) moved
-          ∙ ap (λ r. bytes ++ parts_bytes place r) (sym rest)
-          ∙ has.told;
+            ∙ append_assoc bytes (rows_bytes (part_rows place part)) (parts_bytes (place + (length part.name + 1)) (drop (index + 1) symbols))
+            ∙ ap (λ n. bytes ++ (rows_bytes (part_rows place part) ++ parts_bytes n (drop (index + 1) symbols))) moved
+            ∙ ap (λ r. bytes ++ parts_bytes place r) (sym rest)
+            ∙ has.told;
         names = omega arith;
       }
 
@@ -88,8 +88,8 @@ unfolding joined
 described old one two three four symbols strings named sections a b c d same =
     d
     ∙ ap (λ x. padded 8 x ++ sections)
-      (c ∙ ap (λ x. padded 8 x ++ named) (b ∙ ap (λ x. padded 8 x ++ strings) a)
-      ∙ ap (λ x. padded 8 (padded 8 (padded 8 old ++ symbols) ++ strings) ++ x) same)
+    (c ∙ ap (λ x. padded 8 x ++ named) (b ∙ ap (λ x. padded 8 x ++ strings) a)
+    ∙ ap (λ x. padded 8 (padded 8 (padded 8 old ++ symbols) ++ strings) ++ x) same)
 
 -- no part passes 2 ^ 32
 pub parts_near : (parts : ImageParts) → AreParts parts → AreNear parts

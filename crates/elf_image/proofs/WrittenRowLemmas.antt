@@ -1,12 +1,11 @@
 -- Rows that were written are read back.
-use Rattle.std.proofs.Common.{◌≡◌, ℕ, ◌+◌, ◌-◌, ◌<◌, ◌≤◌, ◌^◌, Bool, true, nat_eq, List, [], ◌∷◌, ◌++◌, length, length-append, drop, slice_index, map, IsTrue, refl, sym, ◌∙◌, ap, subst, arith}
+use Rattle.std.proofs.Common.{◌≡◌, ℕ, ◌+◌, ◌<◌, ◌^◌, Bool, true, List, [], ◌∷◌, ◌++◌, length, length-append, drop, slice_index, IsTrue, refl, sym, ◌∙◌, ap, subst, arith}
 use Rattle.std.specs.List.{flat_map}
-use Rattle.std.proofs.lemmas.Bool.{eq-eqb, eqb-true}
+use Rattle.std.proofs.lemmas.Bool.{eq-eqb}
 use Rattle.std.proofs.lemmas.Grind.{flat_map-append}
-use Rattle.byteorder.specs.Endian.{little_bytes}
 use Rattle.byteorder.specs.Numbers.{length-bytes_low_first}
 use Rattle.byte_layout.specs.Stands.{Stands}
-use Rattle.byte_layout.proofs.StandsLemmas.{stands_front, stands_back, stands_moved, stands_same, stands_number, stands_byte}
+use Rattle.byte_layout.proofs.StandsLemmas.{stands_front, stands_back, stands_moved, stands_same, stands_number}
 use Rattle.elf_image.specs.declared.rows.Width.{Width}
 use Rattle.elf_image.specs.declared.rows.Width.TheVariants.{Char}
 use Rattle.elf_image.specs.declared.rows.Row.{Row}
@@ -19,7 +18,7 @@ Allow [] (row ∷ rows) = ⊥
 Allow (wanted ∷ rest) [] = ⊥
 Allow (wanted ∷ rest) (row ∷ rows) =
     (wanted.width ≡ row.width) × ((value_of row.wanted < 256 ^ size_of row.width)
-      × (IsTrue (meets wanted.wanted (value_of row.wanted)) × Allow rest rows))
+    × (IsTrue (meets wanted.wanted (value_of row.wanted)) × Allow rest rows))
 
 pub length_row : (row : Row) → length (row_bytes row) ≡ size_of row.width
 length_row row = length-bytes_low_first 0 (size_of row.width) (value_of row.wanted)
@@ -59,9 +58,11 @@ written_rows bytes at (wanted ∷ rest) [] allow stands = absurd allow
 written_rows bytes at (wanted ∷ rest) (row ∷ rows) allow stands =
     let here = wanted_here bytes at wanted.width row.width (value_of row.wanted) (meets wanted.wanted) allow.0
     (row_read bytes at row rows allow.1.0 stands) allow.1.1.0 in
-    let P : Width → Type 0 = λ w. HasRows bytes (at + size_of w) rest in
-    (here, subst P (sym allow.0)
-      (written_rows bytes (at + size_of row.width) rest rows allow.1.1.1 (rows_next bytes at row rows stands)))
+    let P : Width → Type 0 = λ w. HasRows bytes (at + size_of w) rest in (
+      here,
+      subst P (sym allow.0)
+          (written_rows bytes (at + size_of row.width) rest rows allow.1.1.1 (rows_next bytes at row rows stands)),
+    )
 
 pub length_joined_rows : (first rest : List Row) → rows_bytes (first ++ rest) ≡ rows_bytes first ++ rows_bytes rest
 unfolding rows_bytes
@@ -92,6 +93,7 @@ byte_here bytes at byte rest stands =
 pub bytes_stand : (bytes : List ℕ) (at : ℕ) (part : List ℕ) → Stands bytes at part → HasRows bytes at (byte_rows part)
 unfolding byte_rows
 bytes_stand bytes at [] stands = tt
-bytes_stand bytes at (byte ∷ rest) stands =
-    (eq-eqb (number_at bytes at Char) byte (byte_here bytes at byte rest stands),
-      bytes_stand bytes (at + 1) rest (stands_back bytes at (byte ∷ []) rest stands))
+bytes_stand bytes at (byte ∷ rest) stands = (
+  eq-eqb (number_at bytes at Char) byte (byte_here bytes at byte rest stands),
+  bytes_stand bytes (at + 1) rest (stands_back bytes at (byte ∷ []) rest stands),
+)

@@ -1,5 +1,5 @@
 -- What an image tells.
-use Rattle.std.specs.Prelude.{◌≡◌, ℕ, zero, suc, Bool, List, [], ◌∷◌, ◌+◌, ◌-◌, ◌*◌, ◌≤◌, ◌==◌, take, drop, length, map, filter, position, Option, Some, None}
+use Rattle.std.specs.Prelude.{◌≡◌, ℕ, zero, suc, Bool, List, [], ◌∷◌, ◌+◌, ◌-◌, ◌*◌, ◌≤◌, ◌==◌, take, drop, map, filter, position, Option, Some, None}
 use Rattle.elf_image.specs.declared.group.Group.TheVariants.{Outside}
 use Rattle.elf_image.specs.declared.rows.Width.TheVariants.{Char, Word, Xword}
 use Rattle.elf_image.specs.declared.parts.SymbolPart.{SymbolPart}
@@ -58,7 +58,7 @@ outside_in bytes = map (symbol_at bytes) (filter (lies_outside bytes) (symbol_pl
 pub record IsFirstOutside (bytes : List ℕ) (first : ℕ) : Type 0 where
   pub within : first ≤ count_in bytes
   pub all : outside_in bytes
-    ≡ map (symbol_at bytes) (symbol_places (count_in bytes - first) (symbols_start bytes + symbol_size * first))
+      ≡ map (symbol_at bytes) (symbol_places (count_in bytes - first) (symbols_start bytes + symbol_size * first))
 
 -- an image that was read
 pub record IsRead (bytes : List ℕ) (first : ℕ) : Type 0 where

@@ -10,7 +10,7 @@ use Rattle.elf_image.specs.declared.symbols.Reading.{Reading}
 use Rattle.elf_image.specs.Rows.{rows_fault, byte_rows}
 use Rattle.elf_image.specs.Layout.{header_size, headers_size, sections_size, text_offset, text_end, table_offset, table_end, values_offset, values_end, symbols_offset, symbols_end, strings_offset, strings_end, labels_offset, labels_end, sections_offset, sections_place, entry_place, labels, entry_in, sections_in, text_header, table_header, values_header, program_size, section_at, sizes_in, info_in, info_place}
 use Rattle.elf_image.specs.Headers.{ident_rows, header_rows, program_rows, text_flags, table_flags, values_flags, section_rows, null_section, text_section, table_section, values_section, symbols_section, strings_section, labels_section}
-use Rattle.elf_image.specs.Symbols.{null_symbol, first_reading, symbols_read, is_zero}
+use Rattle.elf_image.specs.Symbols.{null_symbol, first_reading, symbols_read}
 use Rattle.elf_image.specs.Image.{names_in, count_in, symbols_start}
 
 -- the fault of a test that fails
@@ -67,11 +67,11 @@ loaded_fault bytes =
 unfoldable pub described_fault : List ℕ → Option ImageNo
 described_fault bytes =
     option_or (section_fault bytes (section_at bytes 4)
-      (symbols_section (symbols_offset (sizes_in bytes)) (Entries (symbols_offset (sizes_in bytes)) (sections_in bytes)) Any))
+    (symbols_section (symbols_offset (sizes_in bytes)) (Entries (symbols_offset (sizes_in bytes)) (sections_in bytes)) Any))
     (option_or (section_fault bytes (section_at bytes 5)
-      (strings_section (strings_offset (sizes_in bytes)) (Within (strings_offset (sizes_in bytes)) (sections_in bytes))))
+    (strings_section (strings_offset (sizes_in bytes)) (Within (strings_offset (sizes_in bytes)) (sections_in bytes))))
     (section_fault bytes (section_at bytes 6)
-      (labels_section (labels_offset (sizes_in bytes)) (Labels (labels_offset (sizes_in bytes)) (sections_in bytes)))))
+    (labels_section (labels_offset (sizes_in bytes)) (Labels (labels_offset (sizes_in bytes)) (sections_in bytes)))))
 
 unfoldable pub sections_fault : List ℕ → Option ImageNo
 sections_fault bytes =

@@ -43,14 +43,31 @@ section_rows section =
 -- the sections; a name is a place among the names of the sections
 abbrev pub null_section : Section
 null_section = record {
-  name = 0; kind = 0; flags = 0; address = 0; offset = 0; size = Is 0; link = 0; info = Is 0; align = 0; entry_size = 0;
+  name = 0;
+  kind = 0;
+  flags = 0;
+  address = 0;
+  offset = 0;
+  size = Is 0;
+  link = 0;
+  info = Is 0;
+  align = 0;
+  entry_size = 0;
 }
 
 -- a part that is loaded
 abbrev pub loaded_section : ℕ → ℕ → ℕ → ℕ → ℕ → Section
 loaded_section name flags offset size align = record {
-  name = name; kind = 1; flags = flags; address = address_of offset; offset = offset; size = Is size; link = 0;
-  info = Is 0; align = align; entry_size = 0;
+  name = name;
+  kind = 1;
+  flags = flags;
+  address = address_of offset;
+  offset = offset;
+  size = Is size;
+  link = 0;
+  info = Is 0;
+  align = align;
+  entry_size = 0;
 }
 
 abbrev pub text_section : ℕ → ℕ → Section
@@ -65,13 +82,31 @@ values_section offset size = loaded_section 18 3 offset size 16
 -- the symbol table, whose names are section 5, and which says how many of its symbols are local
 abbrev pub symbols_section : ℕ → Wanted → Wanted → Section
 symbols_section offset size info = record {
-  name = 24; kind = 2; flags = 0; address = 0; offset = offset; size = size; link = 5; info = info; align = 8; entry_size = 24;
+  name = 24;
+  kind = 2;
+  flags = 0;
+  address = 0;
+  offset = offset;
+  size = size;
+  link = 5;
+  info = info;
+  align = 8;
+  entry_size = 24;
 }
 
 -- names
 abbrev pub names_section : ℕ → ℕ → Wanted → Section
 names_section name offset size = record {
-  name = name; kind = 3; flags = 0; address = 0; offset = offset; size = size; link = 0; info = Is 0; align = 1; entry_size = 0;
+  name = name;
+  kind = 3;
+  flags = 0;
+  address = 0;
+  offset = offset;
+  size = size;
+  link = 0;
+  info = Is 0;
+  align = 1;
+  entry_size = 0;
 }
 
 abbrev pub strings_section : ℕ → Wanted → Section

@@ -38,11 +38,11 @@ pub record HasSections (bytes : List ℕ) : Type 0 where
   pub table : HasRows bytes (section_at bytes 2) (section_rows (table_section (table_offset (sizes_in bytes)) (sizes_in bytes).table))
   pub values : HasRows bytes (section_at bytes 3) (section_rows (values_section (values_offset (sizes_in bytes)) (sizes_in bytes).values))
   pub symbols : HasRows bytes (section_at bytes 4)
-    (section_rows (symbols_section (symbols_offset (sizes_in bytes)) (Entries (symbols_offset (sizes_in bytes)) (sections_in bytes)) Any))
+      (section_rows (symbols_section (symbols_offset (sizes_in bytes)) (Entries (symbols_offset (sizes_in bytes)) (sections_in bytes)) Any))
   pub strings : HasRows bytes (section_at bytes 5)
-    (section_rows (strings_section (strings_offset (sizes_in bytes)) (Within (strings_offset (sizes_in bytes)) (sections_in bytes))))
+      (section_rows (strings_section (strings_offset (sizes_in bytes)) (Within (strings_offset (sizes_in bytes)) (sections_in bytes))))
   pub labels : HasRows bytes (section_at bytes 6)
-    (section_rows (labels_section (labels_offset (sizes_in bytes)) (Labels (labels_offset (sizes_in bytes)) (sections_in bytes))))
+      (section_rows (labels_section (labels_offset (sizes_in bytes)) (Labels (labels_offset (sizes_in bytes)) (sections_in bytes))))
   pub next : sections_in bytes ≡ sections_offset (sizes_in bytes)
 
 -- what the later steps of reading know from the earlier ones: the section headers stand behind the parts, within the bytes

@@ -3,7 +3,7 @@
 -- The headers have 232 bytes. The text begins at 4096, the table and the values at the next multiple of 4096 each. Behind
 -- the values come the symbol table, its names, the names of the sections and the section headers, each at the next
 -- multiple of 8. The address of a part is its place and 0x3FF000.
-use Rattle.std.specs.Prelude.{ℕ, List, [], ◌∷◌, ◌++◌, ◌+◌, ◌*◌, length, codes}
+use Rattle.std.specs.Prelude.{ℕ, List, [], ◌∷◌, ◌++◌, ◌+◌, ◌*◌, codes}
 use Rattle.byte_layout.specs.Joined.{aligned}
 use Rattle.elf_image.specs.declared.layout.Sizes.{Sizes}
 use Rattle.elf_image.specs.declared.layout.Layout.{Layout}

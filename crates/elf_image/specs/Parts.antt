@@ -1,6 +1,6 @@
 -- The parts of which an image is written.
-use Rattle.std.specs.Prelude.{◌≡◌, ℕ, Bool, true, false, ◌==◌, ◌&&◌, not, ◌≤◌, ◌<◌, ◌^◌, All, List, [], ◌∷◌, ◌⊎◌, Option, Some, None, IsTrue, if◌then◌else◌}
-use Rattle.std.specs.List.{list_any, list_all}
+use Rattle.std.specs.Prelude.{◌≡◌, ℕ, Bool, false, ◌==◌, ◌&&◌, not, ◌≤◌, ◌<◌, ◌^◌, List, [], ◌∷◌, Option, Some, None, IsTrue, if◌then◌else◌}
+use Rattle.std.specs.List.{list_all}
 use Rattle.elf_image.specs.declared.group.Group.{Group}
 use Rattle.elf_image.specs.declared.group.Group.TheVariants.{LocalFunctions, LocalValues, GlobalFunctions, GlobalValues, Outside}
 use Rattle.elf_image.specs.declared.parts.SymbolPart.{SymbolPart}

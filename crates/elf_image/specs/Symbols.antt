@@ -3,7 +3,7 @@ use Rattle.std.specs.Prelude.{◌≡◌, ℕ, zero, suc, Bool, false, List, [], 
 use Rattle.std.specs.Option.{option_map}
 use Rattle.elf_image.specs.declared.group.Group.{Group}
 use Rattle.elf_image.specs.declared.group.Group.TheVariants.{LocalFunctions, Outside}
-use Rattle.elf_image.specs.declared.rows.Width.TheVariants.{Char, Word, Xword}
+use Rattle.elf_image.specs.declared.rows.Width.TheVariants.{Char, Xword}
 use Rattle.elf_image.specs.declared.rows.Wanted.{Wanted}
 use Rattle.elf_image.specs.declared.rows.Wanted.TheVariants.{Any, Is, Above, InGroup}
 use Rattle.elf_image.specs.declared.rows.Row.{Row}
@@ -71,7 +71,7 @@ module _ (names bytes : List ℕ) (entry : ℕ) where
   HasSymbols (suc count) reading at last =
       HasRows bytes at (wanted_at bytes reading at)
       × ((place : ℕ) × ((name_end names reading.place ≡ Some place)
-        × HasSymbols count (reading_behind bytes entry reading at place) (at + symbol_size) last))
+      × HasSymbols count (reading_behind bytes entry reading at place) (at + symbol_size) last))
 
   abbrev pub read_if : Option ℕ → Option ℕ → (ℕ → Reading) → Option Reading
   read_if None (Some place) behind = Some (behind place)

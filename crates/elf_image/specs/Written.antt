@@ -1,5 +1,5 @@
 -- The bytes of an image that is written.
-use Rattle.std.specs.Prelude.{◌≡◌, ℕ, List, [], ◌∷◌, ◌++◌, ◌+◌, ◌<◌, ◌^◌, All, length, count_by, Option, None, IsTrue}
+use Rattle.std.specs.Prelude.{ℕ, List, [], ◌∷◌, ◌++◌, ◌+◌, ◌<◌, ◌^◌, All, length, count_by, None, IsTrue}
 use Rattle.std.specs.List.{flat_map, list_any}
 use Rattle.byte_layout.specs.Joined.{joined}
 use Rattle.elf_image.specs.declared.layout.Sizes.{Sizes}

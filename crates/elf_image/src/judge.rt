@@ -13,7 +13,8 @@ use crate::headers::{
 };
 use crate::layout::{
     HEADER_SIZE, HEADERS_SIZE, LABELS, PAGE, SECTIONS_PLACE, SECTIONS_SIZE, TABLE_HEADER,
-    TEXT_HEADER, TEXT_OFFSET, VALUES_HEADER, aligned, program_size, section_at, sections_in, sizes_in,
+    TEXT_HEADER, TEXT_OFFSET, VALUES_HEADER, aligned, program_size, section_at, sections_in,
+    sizes_in,
 };
 use crate::rows::Wanted::{Any, Entries, Is, Labels, Machine, Within};
 use crate::rows::first_fault;
@@ -160,7 +161,11 @@ fn judge_described(bytes: &[u8], values_end: u64) -> Result<u64, ImageNo>
     let to = sections_in(bytes);
     let sizes = sizes_in(bytes);
     let symbols = aligned(8, values_end);
-    judge_section(bytes, 4, &symbols_section(symbols, Entries(symbols, to), Any))?;
+    judge_section(
+        bytes,
+        4,
+        &symbols_section(symbols, Entries(symbols, to), Any),
+    )?;
     let strings = aligned(8, symbols + sizes.symbols);
     judge_section(bytes, 5, &strings_section(strings, Within(strings, to)))?;
     let labels = aligned(8, strings + sizes.strings);

@@ -2,8 +2,8 @@
 #![tactic(auto)]
 
 mod fault;
-mod group;
 mod gaps;
+mod group;
 mod headers;
 mod image;
 mod judge;
@@ -13,8 +13,8 @@ mod parts;
 mod rows;
 mod symbol_table;
 mod symbols;
-mod writer;
 mod write_symbols;
+mod writer;
 
 pub use fault::ImageNo;
 pub use image::{Image, view};

@@ -161,7 +161,13 @@ impl Reading {
 
 /// Reads so many symbols from a place on; otherwise the place of the first that isn't as it has to be.
 #[tactic(auto, using(crate::proofs::SymbolLemmas::reads_next))]
-pub fn read_symbols(names: &[u8], bytes: &[u8], entry: u64, count: u64, start: u64) -> Result<Reading, u64>
+pub fn read_symbols(
+    names: &[u8],
+    bytes: &[u8],
+    entry: u64,
+    count: u64,
+    start: u64,
+) -> Result<Reading, u64>
     requires { start + symbol_size * count ≤ length bytes.now }
     ensures { result ≡ spec.symbols_read names.now bytes.now entry count spec.first_reading start }
 {

@@ -64,5 +64,8 @@ pub fn string_bytes(alloc: Global, symbols: &[SymbolPart]) -> Result<Vec<u8>, Me
 pub fn locals_of(symbols: &[SymbolPart]) -> u64
     ensures { result ≡ spec.locals_of symbols.now }
 {
-    1 + symbols.iter().filter(|part| group_of(part).is_local()).count() as u64
+    1 + symbols
+        .iter()
+        .filter(|part| group_of(part).is_local())
+        .count() as u64
 }

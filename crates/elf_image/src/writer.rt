@@ -76,7 +76,12 @@ fn push_loaded(bytes: &mut Vec<u8>, parts: &ImageParts) -> Result<(), AllocError
 }
 
 // What describes them.
-fn push_described(bytes: &mut Vec<u8>, symbols: &[u8], strings: &[u8], sections: &[u8]) -> Result<(), AllocError>
+fn push_described(
+    bytes: &mut Vec<u8>,
+    symbols: &[u8],
+    strings: &[u8],
+    sections: &[u8],
+) -> Result<(), AllocError>
     ensures { OnOk result (bytes.new.items ≡ joined 8 bytes.old.items (symbols.now ∷ strings.now ∷ places.labels ∷ sections.now ∷ [])) }
 {
     push_part(bytes, 8, symbols)?;
@@ -88,7 +93,13 @@ fn push_described(bytes: &mut Vec<u8>, symbols: &[u8], strings: &[u8], sections:
 
 // The header and the program headers.
 #[tactic(auto, using(crate::proofs::LayoutLemmas::ends_before))]
-fn front(alloc: Global, machine: u16, entry: u64, sizes: Sizes, layout: Layout) -> Result<Vec<u8>, AllocError>
+fn front(
+    alloc: Global,
+    machine: u16,
+    entry: u64,
+    sizes: Sizes,
+    layout: Layout,
+) -> Result<Vec<u8>, AllocError>
     requires layout { layout ≡ places.layout_of sizes }
     requires near { places.sections_offset sizes < 2 ^ 63 }
     ensures { IfOk result (λ bytes. bytes.items ≡ rows_bytes (spec.front_table machine entry sizes)) }
@@ -108,7 +119,12 @@ fn front(alloc: Global, machine: u16, entry: u64, sizes: Sizes, layout: Layout) 
 
 // The section headers.
 #[tactic(auto, using(crate::proofs::LayoutLemmas::ends_before))]
-fn section_table(alloc: Global, sizes: Sizes, layout: Layout, locals: u64) -> Result<Vec<u8>, AllocError>
+fn section_table(
+    alloc: Global,
+    sizes: Sizes,
+    layout: Layout,
+    locals: u64,
+) -> Result<Vec<u8>, AllocError>
     requires layout { layout ≡ places.layout_of sizes }
     requires near { places.sections_offset sizes < 2 ^ 63 }
     ensures { IfOk result (λ bytes. bytes.items ≡ rows_bytes (spec.section_table sizes locals)) }

@@ -97,7 +97,12 @@ fn an_image_tells_its_parts(rt: HostRuntime) -> Result<(), Fail> {
 }
 
 // Tests what is said of an image that was changed at these places.
-fn expect<R: Abort>(rt: &R, alloc: Global, changes: &[(usize, u8)], want: Option<ImageNo>) -> Result<(), Fail> {
+fn expect<R: Abort>(
+    rt: &R,
+    alloc: Global,
+    changes: &[(usize, u8)],
+    want: Option<ImageNo>,
+) -> Result<(), Fail> {
     let mut bytes = all_groups(alloc)?;
     for (at, value) in changes {
         if let Some(byte) = bytes.get_mut(*at) {
@@ -137,11 +142,31 @@ fn headers_are_judged_in_order(rt: HostRuntime) -> Result<(), Fail> {
         expect(&rt, rt.alloc(), &[(at, value)], Some(want))?;
     }
     // Values up to the end of the file, and a byte more.
-    expect(&rt, rt.alloc(), &[(208, 0x58), (209, 3)], Some(ImageNo::I2(216)))?;
-    expect(&rt, rt.alloc(), &[(208, 0x59), (209, 3)], Some(ImageNo::I2(208)))?;
+    expect(
+        &rt,
+        rt.alloc(),
+        &[(208, 0x58), (209, 3)],
+        Some(ImageNo::I2(216)),
+    )?;
+    expect(
+        &rt,
+        rt.alloc(),
+        &[(208, 0x59), (209, 3)],
+        Some(ImageNo::I2(208)),
+    )?;
     // Section headers at the values' end, before it, and too far behind.
-    expect(&rt, rt.alloc(), &[(40, 0x28), (41, 0x30)], Some(ImageNo::I2(12_352)))?;
-    expect(&rt, rt.alloc(), &[(40, 0x20), (41, 0x30)], Some(ImageNo::I2(40)))?;
+    expect(
+        &rt,
+        rt.alloc(),
+        &[(40, 0x28), (41, 0x30)],
+        Some(ImageNo::I2(12_352)),
+    )?;
+    expect(
+        &rt,
+        rt.alloc(),
+        &[(40, 0x20), (41, 0x30)],
+        Some(ImageNo::I2(40)),
+    )?;
     expect(&rt, rt.alloc(), &[(40, 0xA0)], Some(ImageNo::I2(40)))?;
     Ok(())
 }
@@ -209,8 +234,13 @@ fn numbers_and_parts_are_appended(rt: HostRuntime) -> Result<(), Fail> {
     push_words(&mut bytes, &[6, 0x0700])?;
     pad(&mut bytes, 8)?;
     push_part(&mut bytes, 16, &[9])?;
-    assert_eq!(rt; bytes.as_slice(), [
-        1, 2, 3, 4, 5, 0, 0, 0, 0, 0, 0, 0, 6, 0, 0, 0, 0, 7, 0, 0, 0, 0, 0, 0, 0, 0, 0, 0, 0, 0, 0, 0, 9,
-    ].as_slice());
+    assert_eq!(rt;
+        bytes.as_slice(),
+        [
+            1, 2, 3, 4, 5, 0, 0, 0, 0, 0, 0, 0, 6, 0, 0, 0, 0, 7, 0, 0, 0, 0, 0, 0, 0, 0, 0, 0, 0,
+            0, 0, 0, 9,
+        ]
+        .as_slice()
+    );
     Ok(())
 }

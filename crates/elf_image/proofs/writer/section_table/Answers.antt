@@ -1,7 +1,6 @@
-use Rattle.std.proofs.Common.{◌≡◌, ◌++◌, ◌∙◌, List, ap}
+use Rattle.std.proofs.Common.{◌++◌, ◌∙◌, ap}
 use Rattle.elf_image.specs.declared.layout.Layout.{Layout}
 use Rattle.elf_image.specs.declared.rows.Wanted.TheVariants.{Is}
-use Rattle.elf_image.specs.declared.rows.Row.{Row}
 use Rattle.elf_image.specs.Layout.{table_offset, values_offset, symbols_offset, strings_offset, labels_offset}
 use Rattle.elf_image.specs.Headers.{section_rows, null_section, text_section, table_section, values_section, symbols_section, strings_section, labels_section}
 use Rattle.elf_image.proofs.WriteLemmas.{rows_first, rows_pushed}
