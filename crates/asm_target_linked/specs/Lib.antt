@@ -6,3 +6,5 @@ pub mod Frames
 pub mod Selecting
 pub mod FormLaws
 pub mod FrameLaws
+pub mod RunLaws
+pub mod ActLaws

@@ -4,7 +4,9 @@
 #![tactic(auto)]
 
 
+mod aiming;
 mod decode;
+mod frames;
 
 mod instr;
 mod linked;
