@@ -1,0 +1,4 @@
+pub mod Words
+pub mod Rewriting
+pub mod Rewritten
+pub mod Draft
