@@ -3,3 +3,13 @@ pub mod DepthLemmas
 pub mod FlowLemmas
 pub mod ListingLemmas
 pub mod RunLemmas
+pub mod CleanLemmas
+pub mod RoleLemmas
+pub mod PlaceLemmas
+pub mod FrameLemmas
+pub mod SequenceLemmas
+pub mod GuardLemmas
+pub mod LevelLemmas
+pub mod BlockLemmas
+pub mod CheckLemmas
+pub mod CheckLaws

@@ -20,7 +20,7 @@ use Rattle.asm_target.specs.FlowFunction.{call_goal, jump_goal}
 use Rattle.asm_target.specs.Frames.{greatest_total}
 use Rattle.asm_target.specs.InstructionSet.{InstructionSet}
 use Rattle.asm_target.specs.Runs.{Leads, LeadsOver, effects_from}
-use Rattle.asm_target.specs.Sequences.{count_of, is_plain}
+use Rattle.asm_target.specs.Sequences.{count_of, span_of, is_plain}
 
 -- a number below another, modulo 2 ^ 64
 abbrev pub below : ℕ → ℕ → ℕ
@@ -29,7 +29,7 @@ below number distance = (number + (2 ^ 64 - distance)) % 2 ^ 64
 module _ {Instr : Type 0} (begins : List Instr → Sequence) where
   -- A sequence has its instructions, at most five, and no other sequence begins inside it
   pub record StandsApart (code : List Instr) : Type 0 where
-    pub some : 0 < count_of (begins code)
+    pub some : 0 < span_of (begins code)
     pub short : count_of (begins code) ≤ longest
     pub there : is_plain (begins code) ≡ false → count_of (begins code) ≤ length code
     pub apart : (k : ℕ) → 0 < k → k < count_of (begins code) → begins (drop k code) ≡ Plain

@@ -105,6 +105,7 @@ module _ {Instr : Type 0} (set : InstructionSet Instr) (fits : Instr → Type 0)
       pub body_linear : (k : ℕ) → suc k < length body → pos (f.depth (block + suc k)) ≡ outgoing f (block + k)
       pub routine_told : f.is_growth_routine routine ≡ true
       pub routine_outside : is_within f.text routine ≡ false
+      pub routine_low : routine < 2 ^ 64
 
     -- both break no rule and stay at depth 0
     pub record IsGuarded (f : FlowFunction) (block : ℕ) (head body : List Instr) : Type 0 where
