@@ -1,0 +1,4 @@
+pub mod DraftLemmas
+pub mod GoalLemmas
+pub mod SettledLemmas
+pub mod StepLemmas

@@ -1,0 +1,5 @@
+pub mod Words
+pub mod Rewriting
+pub mod Rewritten
+pub mod Laws
+pub mod Draft
