@@ -1,0 +1,2 @@
+pub mod EasedLemmas
+pub mod WidthLemmas
