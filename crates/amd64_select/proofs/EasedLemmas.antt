@@ -48,7 +48,7 @@ all_eased : (site : Site) (ops others : List Operand) → map without_numbers op
     → map (taken true site) ops ≡ map (taken true site) others
 all_eased site ops others same = all_by site ops ∙ ap (map (taken true site)) same ∙ sym (all_by site others)
 
-cancels : (z : ℤ) → z +ℤ (pos 0 -ℤ z) ≡ pos 0
+pub cancels : (z : ℤ) → z +ℤ (pos 0 -ℤ z) ≡ pos 0
 cancels z = omega (arith, ints)
 
 zero_symbol : (s : Spoken) (address : Bool) → zero_resolved (symbol s address) ≡ symbol s address
@@ -129,7 +129,7 @@ picks_zero s lock site ops i picks =
       becomes = zero.1;
     })
 
-picks_nothing : (lock : Bool) (site : Site) (ops : List Operand) (i : Instr) → Picks spoken.Nothing lock site ops i → ⊥
+pub picks_nothing : (lock : Bool) (site : Site) (ops : List Operand) (i : Instr) → Picks spoken.Nothing lock site ops i → ⊥
 unfolding BecomesOne stands
 picks_nothing lock site ops i picks = picks.becomes
 
@@ -152,7 +152,7 @@ could_by s stmt site i plain says picks =
     (becomes.0, record { plain = plain; spoken = s; says = says; by = becomes.1 }))
 
 -- and what it becomes is nothing, or such an instruction
-picked_by : (s : Spoken) (stmt : Stmt) (site : Site) (code : List (Picked Instr)) → BecomesBy s stmt site code
+pub picked_by : (s : Spoken) (stmt : Stmt) (site : Site) (code : List (Picked Instr)) → BecomesBy s stmt site code
     → ((s ≡ spoken.Nothing) × (stmt.lock ≡ false)) ⊎ ((i : Instr) × Picks s stmt.lock site stmt.operands i)
 picked_by spoken.Nothing stmt site code by = inl (refl, by.0)
 picked_by (spoken.Listed m) stmt site code by = inr (by.0, by.1)

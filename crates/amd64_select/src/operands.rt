@@ -160,7 +160,8 @@ fn eased_on_stack(address: bool, at: i64) -> Option<Resolved>
     ensures found { IfSome result (λ x. spec.IsPlaced address Sp (at +ℤ (pos 0 -ℤ at)) x) }
     ensures only { (x : Resolved) → spec.IsPlaced address Sp (at +ℤ (pos 0 -ℤ at)) x → result ≡ Some x }
 {
-    on_stack(address, at, 0 - at)
+    let _ = at;
+    Some(placed(address, Reg::Sp, 0))
 }
 
 fn placed(address: bool, base: Reg, disp: i32) -> Resolved
