@@ -14,7 +14,7 @@ use Rattle.amd64_forms.specs.Names.{alias_text}
 use Rattle.amd64_forms.specs.Rows.{meaning_of}
 
 -- a name of the list says its instruction, and another one what it stands for
-abbrev pub Says : List ℕ → Spoken → Type 0
+unfoldable pub Says : List ℕ → Spoken → Type 0
 Says name spoken =
     ((m : Mnemonic) × (mnemonic_text m ≡ name) × (spoken ≡ Listed m))
     ⊎ ((alias : Alias) × (alias_text alias ≡ name) × (spoken ≡ meaning_of alias))
@@ -24,11 +24,11 @@ abbrev pub IsTls : List ℕ → Type 0
 IsTls name = name ≡ codes "TLS"
 
 -- a register that an address can name
-abbrev pub IsRegister : List ℕ → Type 0
+unfoldable pub IsRegister : List ℕ → Type 0
 IsRegister name = ((reg : Reg) × (reg_text reg ≡ name)) ⊎ (((xmm : Xmm) × (xmm_text xmm ≡ name)) ⊎ IsTls name)
 
 -- a condition; LO and HS are other names of CS and CC
-abbrev pub IsCondition : List ℕ → Type 0
+unfoldable pub IsCondition : List ℕ → Type 0
 IsCondition name = ((code : Cc) × (cc_text code ≡ name)) ⊎ ((name ≡ codes "LO") ⊎ (name ≡ codes "HS"))
 
 abbrev pub IsWord : List ℕ → Type 0

@@ -8,7 +8,7 @@ use crate::registers::{cc_named, reg_named, xmm_named};
 use crate::rows::{Spoken, meaning_of};
 
 /// What a statement's name says; `None` exactly where there is no such name.
-#[tactic(auto, using(crate::proofs::Apart::aliases_apart))]
+#[tactic(auto, using(crate::proofs::Apart::aliases_apart), unfolding(crate::specs::Words::Says))]
 pub fn spoken(name: &[u8]) -> Option<Spoken>
     ensures found { IfSome result (λ spoken. Says name.now spoken) }
     ensures only { (spoken : Spoken) → Says name.now spoken → result ≡ Some spoken }
@@ -27,6 +27,7 @@ pub fn is_tls(name: &[u8]) -> bool
 }
 
 /// Whether the name is that of a register.
+#[tactic(auto, unfolding(crate::specs::Words::IsRegister))]
 pub fn is_register(name: &[u8]) -> bool
     ensures { IsTrue result ↔ IsRegister name.now }
 {
@@ -34,6 +35,7 @@ pub fn is_register(name: &[u8]) -> bool
 }
 
 /// Whether the name is that of a condition.
+#[tactic(auto, unfolding(crate::specs::Words::IsCondition))]
 pub fn is_condition(name: &[u8]) -> bool
     ensures { IsTrue result ↔ IsCondition name.now }
 {

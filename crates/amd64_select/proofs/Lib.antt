@@ -1,0 +1,3 @@
+pub mod EasedLemmas
+pub mod WidthLemmas
+pub mod SelectLemmas

@@ -29,11 +29,14 @@ use Rattle.amd64_table.specs.Flows.{move_of, next_of}
 use Rattle.amd64_table.specs.Operands.{rm_atom}
 use Rattle.amd64_table.proofs.MoveLemmas.{flow_moves}
 use Rattle.amd64_table.proofs.NextLemmas.{nexts}
-use Rattle.amd64_code.specs.Constants.{long_of, byte_of}
+use Rattle.amd64_code.specs.Constants.{long_of, byte_of, short_of}
+use Rattle.amd64_code.specs.declared.head.Opcode.TheVariants.{One}
 use Rattle.amd64_code.specs.Heads.{head_bytes, rex_bytes}
+use Rattle.amd64_code.specs.Opcodes.{arithmetic_digit, shift_digit}
+use Rattle.amd64_table.specs.Operands.{is_quad}
 use Rattle.amd64_code.specs.InstructionSet.{amd64, Fits, end_of}
-use Rattle.amd64_code.specs.ModRm.{mem_bytes, rm_bytes}
-use Rattle.amd64_code.specs.Spelling.{spelling_of, rm_x, rm_b, store_low_head, extend_head}
+use Rattle.amd64_code.specs.ModRm.{fields, mem_bytes, rm_bytes}
+use Rattle.amd64_code.specs.Spelling.{spelling_of, rm_x, rm_b, store_low_head, extend_head, rex_of, plain_head, locked_head, const_opcode}
 use Rattle.amd64_code.proofs.LengthLaws.{bounded}
 use Rattle.amd64_forms.specs.Aiming.{forms_of, aimed, distance_of, distance_bits, aimed_by, place_in}
 use Rattle.amd64_forms.proofs.AimingLemmas.{aimed_twice, distance_aimed, aimed_same, bits_aimed, distance_fits, fits_aimed}
@@ -47,6 +50,12 @@ fronts : (one other tail : List ℕ) → length one ≡ length other → length 
 fronts one other tail same =
     length-append one tail ∙ ap (λ (n : ℕ). n + length tail) same ∙ sym (length-append other tail)
 
+middle : (head : List ℕ) (first : ℕ) (d e : ℤ) (tail : List ℕ)
+    → length (head ++ (first ∷ long_of d) ++ tail) ≡ length (head ++ (first ∷ long_of e) ++ tail)
+middle head first d e tail =
+    fronts (head ++ (first ∷ long_of d)) (head ++ (first ∷ long_of e)) tail
+    (tails head (first ∷ long_of d) (first ∷ long_of e) refl)
+
 -- a spelling has as many bytes with another distance
 pub same_length : (d : ℤ) (i : Instr) → length (spelling_of (aimed_by d i)) ≡ length (spelling_of i)
 unfolding spelling_of aimed_by rm_bytes mem_bytes rm_x rm_b store_low_head extend_head
@@ -56,9 +65,9 @@ same_length d (instr.RegRm op width reg (rms.Mem (memory.Symbol e))) = tails _ (
 same_length d (instr.ArithmeticReg op lock width from (rms.Mem (memory.Symbol e))) = tails _ (_ ∷ long_of d) (_ ∷ long_of e) refl
 same_length d (instr.MemReg op width (memory.Symbol e) reg) = tails _ (_ ∷ long_of d) (_ ∷ long_of e) refl
 same_length d (instr.ArithmeticConst op lock width constant (rms.Mem (memory.Symbol e))) =
-    fronts _ _ _ (tails _ (_ ∷ long_of d) (_ ∷ long_of e) refl)
+    middle (head_bytes (locked_head lock (rex_of (is_quad width) false (rms.Mem (memory.Symbol e))) (const_opcode constant))) (fields 0 (arithmetic_digit op) 5) d e (short_of constant)
 same_length d (instr.CompareConst width (rms.Mem (memory.Symbol e)) constant) =
-    fronts _ _ _ (tails _ (_ ∷ long_of d) (_ ∷ long_of e) refl)
+    middle (head_bytes (plain_head (rex_of (is_quad width) false (rms.Mem (memory.Symbol e))) (const_opcode constant))) (fields 0 (7) 5) d e (short_of constant)
 same_length d (instr.StoreLow size.Byte from (memory.Symbol e)) = tails _ (_ ∷ long_of d) (_ ∷ long_of e) refl
 same_length d (instr.StoreLow size.Word from (memory.Symbol e)) = tails _ (_ ∷ long_of d) (_ ∷ long_of e) refl
 same_length d (instr.Extend extend.ByteZero (rms.Mem (memory.Symbol e)) to) = tails _ (_ ∷ long_of d) (_ ∷ long_of e) refl
@@ -67,14 +76,15 @@ same_length d (instr.Extend extend.ByteSign (rms.Mem (memory.Symbol e)) to) = ta
 same_length d (instr.Extend extend.WordSign (rms.Mem (memory.Symbol e)) to) = tails _ (_ ∷ long_of d) (_ ∷ long_of e) refl
 same_length d (instr.Extend extend.LongSign (rms.Mem (memory.Symbol e)) to) = tails _ (_ ∷ long_of d) (_ ∷ long_of e) refl
 same_length d (instr.StoreConst width constant (memory.Symbol e)) =
-    fronts _ _ _ (tails _ (_ ∷ long_of d) (_ ∷ long_of e) refl)
-same_length d (instr.StoreByte constant (memory.Symbol e)) = fronts _ _ _ (tails _ (_ ∷ long_of d) (_ ∷ long_of e) refl)
+    middle (head_bytes (plain_head (rex_of (is_quad width) false (rms.Mem (memory.Symbol e))) (One 0xc7))) (fields 0 (0) 5) d e (long_of constant)
+same_length d (instr.StoreByte constant (memory.Symbol e)) =
+    middle (head_bytes (plain_head (rex_of false false (rms.Mem (memory.Symbol e))) (One 0xc6))) (fields 0 (0) 5) d e (byte_of constant)
 same_length d (instr.Lea (memory.Symbol e) to) = tails _ (_ ∷ long_of d) (_ ∷ long_of e) refl
 same_length d (instr.Unary op lock width (rms.Mem (memory.Symbol e))) = tails _ (_ ∷ long_of d) (_ ∷ long_of e) refl
 same_length d (instr.MulDiv op width (rms.Mem (memory.Symbol e))) = tails _ (_ ∷ long_of d) (_ ∷ long_of e) refl
 same_length d (instr.RmReg op width (rms.Mem (memory.Symbol e)) to) = tails _ (_ ∷ long_of d) (_ ∷ long_of e) refl
 same_length d (instr.ShiftConst op width count (rms.Mem (memory.Symbol e))) =
-    fronts _ _ _ (tails _ (_ ∷ long_of d) (_ ∷ long_of e) refl)
+    middle (head_bytes (plain_head (rex_of (is_quad width) false (rms.Mem (memory.Symbol e))) (One 0xc1))) (fields 0 (shift_digit op) 5) d e (count ∷ [])
 same_length d (instr.ShiftCx op width (rms.Mem (memory.Symbol e))) = tails _ (_ ∷ long_of d) (_ ∷ long_of e) refl
 same_length d (instr.Exchange width reg (memory.Symbol e)) = tails _ (_ ∷ long_of d) (_ ∷ long_of e) refl
 same_length d (instr.Atomic op lock width reg (memory.Symbol e)) = tails _ (_ ∷ long_of d) (_ ∷ long_of e) refl

@@ -50,10 +50,10 @@ symbol spoken false =
 
 -- Above the stack pointer, at a depth, the first byte of the arguments and the top of the locals. BP, where it's saved, lies between
 -- the locals and the return address
-abbrev pub arguments_at : Site → ℤ
+unfoldable pub arguments_at : Site → ℤ
 arguments_at site = pos (site.depth + 8)
 
-abbrev pub locals_at : Site → ℤ
+unfoldable pub locals_at : Site → ℤ
 locals_at site = if site.frame.saves_bp then pos site.depth -ℤ pos 8 else pos site.depth
 
 -- a displacement has 32 bits
@@ -61,13 +61,13 @@ abbrev pub IsPlaced : Bool → Reg → ℤ → Resolved → Type 0
 IsPlaced address base disp x = IsTrue (fits_bits 32 disp) × (x ≡ place address (memory.Base base disp))
 
 -- the register of a name
-abbrev pub IsRegister : List ℕ → Resolved → Type 0
+unfoldable pub IsRegister : List ℕ → Resolved → Type 0
 IsRegister text x =
     ((reg : Reg) × (reg_text reg ≡ text) × (x ≡ Plain (operand.Reg reg)))
     ⊎ ((xmm : Xmm) × (xmm_text xmm ≡ text) × (x ≡ Plain (operand.Wide xmm)))
 
 -- `off(base)`, where only the word that thread-local storage begins with lies at TLS
-abbrev pub IsBased : ℤ → List ℕ → Resolved → Type 0
+unfoldable pub IsBased : ℤ → List ℕ → Resolved → Type 0
 IsBased off base x =
     ((reg : Reg) × (reg_text reg ≡ base) × IsPlaced false reg off x)
     ⊎ (IsTls base × (off ≡ pos 0) × (x ≡ Plain operand.Tls))

@@ -52,6 +52,7 @@ use Rattle.amd64_select.specs.Selecting.{Becomes, BecomesBy, Knows, Picks, Resol
 
 -- a name says one thing
 pub says_one : (text : List ℕ) (s t : Spoken) → Says text s → Says text t → s ≡ t
+unfolding Says
 says_one text s t (inl one) (inl other) =
     one.2 ∙ ap spoken.Listed (mnemonics_apart one.0 other.0 (one.1 ∙ sym other.1)) ∙ sym other.2
 says_one text s t (inl one) (inr other) = absurd (mnemonic_no_alias one.0 other.0 (one.1 ∙ sym other.1))
@@ -68,6 +69,7 @@ placed_one : (address : Bool) (reg other : Reg) (disp : ℤ) (x y : Resolved) �
 placed_one address reg other disp x y same one two = cc
 
 register_one : (text : List ℕ) (x y : Resolved) → IsRegister text x → IsRegister text y → x ≡ y
+unfolding IsRegister
 register_one text x y (inl one) (inl two) =
     one.2 ∙ ap (λ (reg : Reg). Plain (operand.Reg reg)) (regs_apart one.0 two.0 (one.1 ∙ sym two.1)) ∙ sym two.2
 register_one text x y (inl one) (inr two) = absurd (reg_no_xmm one.0 two.0 (one.1 ∙ sym two.1))
@@ -76,6 +78,7 @@ register_one text x y (inr one) (inr two) =
     one.2 ∙ ap (λ (xmm : Xmm). Plain (operand.Wide xmm)) (xmms_apart one.0 two.0 (one.1 ∙ sym two.1)) ∙ sym two.2
 
 based_one : (off : ℤ) (base : List ℕ) (x y : Resolved) → IsBased off base x → IsBased off base y → x ≡ y
+unfolding IsBased
 based_one off base x y (inl one) (inl two) =
     placed_one false one.0 two.0 off x y (regs_apart one.0 two.0 (one.1 ∙ sym two.1)) one.2 two.2
 based_one off base x y (inl one) (inr two) = absurd (reg_no_tls one.0 (one.1 ∙ two.0))

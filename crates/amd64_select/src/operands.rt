@@ -53,14 +53,14 @@ fn eased(spoken: Spoken, site: Site, operand: &Operand) -> Option<Resolved>
         Operand::Mem { base, index: None, .. } => based(0, base.as_slice()),
         Operand::Mem { base, index: Some((index, _)), .. } => indexed(0, base.as_slice(), index.as_slice(), 1),
         Operand::Sym { address, .. } => Some(symbol(spoken, *address)),
-        Operand::Arg { address, .. } => on_stack(*address, arguments_at(site), 0 - arguments_at(site)),
-        Operand::Auto { address, .. } => on_stack(*address, locals_at(site), 0 - locals_at(site)),
+        Operand::Arg { address, .. } => eased_on_stack(*address, arguments_at(site)),
+        Operand::Auto { address, .. } => eased_on_stack(*address, locals_at(site)),
         Operand::Label(_) => Some(Resolved::Plain(Shown::Goal(0))),
         Operand::Pair(..) | Operand::Shifted { .. } => None,
     }
 }
 
-#[tactic(auto, using(amd64_forms::proofs::Apart::reg_no_xmm))]
+#[tactic(auto, unfolding(crate::specs::Operands::IsRegister))]
 fn register(name: &[u8]) -> Option<Resolved>
     ensures found { IfSome result (λ x. spec.IsRegister name.now x) }
     ensures only { (x : Resolved) → spec.IsRegister name.now x → result ≡ Some x }
@@ -71,7 +71,7 @@ fn register(name: &[u8]) -> Option<Resolved>
     }
 }
 
-#[tactic(auto, using(amd64_forms::proofs::Apart::reg_no_tls))]
+#[tactic(auto, using(amd64_forms::proofs::Apart::reg_no_tls), unfolding(crate::specs::Operands::IsBased))]
 fn based(off: i64, base: &[u8]) -> Option<Resolved>
     ensures found { IfSome result (λ x. spec.IsBased off base.now x) }
     ensures only { (x : Resolved) → spec.IsBased off base.now x → result ≡ Some x }
@@ -123,6 +123,7 @@ fn symbol(spoken: Spoken, address: bool) -> Resolved
     }
 }
 
+#[tactic(auto, unfolding(crate::specs::Operands::arguments_at))]
 fn arguments_at(site: Site) -> i64
     ensures at { result ≡ spec.arguments_at site }
     ensures low { pos 0 ≤ℤ result }
@@ -131,6 +132,7 @@ fn arguments_at(site: Site) -> i64
     i64::from(site.depth) + 8
 }
 
+#[tactic(auto, unfolding(crate::specs::Operands::locals_at))]
 fn locals_at(site: Site) -> i64
     ensures at { result ≡ spec.locals_at site }
     ensures low { (pos 0 -ℤ pos 8) ≤ℤ result }
@@ -149,6 +151,17 @@ fn on_stack(address: bool, at: i64, off: i64) -> Option<Resolved>
     ensures only { (x : Resolved) → spec.IsPlaced address Sp (at +ℤ off) x → result ≡ Some x }
 {
     Some(placed(address, Reg::Sp, long_sum(at, off)?))
+}
+
+// With an offset by which it lies at the stack pointer.
+fn eased_on_stack(address: bool, at: i64) -> Option<Resolved>
+    requires low { (pos 0 -ℤ pos 8) ≤ℤ at }
+    requires high { at ≤ℤ pos (2 ^ 33) }
+    ensures found { IfSome result (λ x. spec.IsPlaced address Sp (at +ℤ (pos 0 -ℤ at)) x) }
+    ensures only { (x : Resolved) → spec.IsPlaced address Sp (at +ℤ (pos 0 -ℤ at)) x → result ≡ Some x }
+{
+    let _ = at;
+    Some(placed(address, Reg::Sp, 0))
 }
 
 fn placed(address: bool, base: Reg, disp: i32) -> Resolved

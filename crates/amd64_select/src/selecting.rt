@@ -10,7 +10,7 @@ ghost use Rattle.amd64_table.specs.declared.instr.Instr.{Instr};
 ghost use Rattle.amd64_forms.specs.declared.rows.Resolved.{Resolved};
 ghost use Rattle.amd64_forms.specs.declared.rows.Spoken.{Spoken};
 ghost use Rattle.amd64_forms.specs.declared.rows.Spoken.TheVariants as spoken;
-ghost use Rattle.amd64_forms.specs.Words.{Says};
+ghost use Rattle.amd64_forms.specs.Words.{Says, IsRegister};
 ghost use Rattle.amd64_select.specs.Operands as operand_spec;
 ghost use Rattle.amd64_select.specs.Selecting as spec;
 
@@ -149,7 +149,10 @@ fn could_be(spoken: Spoken, stmt: &Stmt, site: Site) -> bool
     requires unselected { ¬ IsSelected spec.selection stmt.now site }
     ensures { IsTrue result ↔ CouldBe spec.selection stmt.now site }
 {
-    picked(true, spoken, stmt.lock, site, stmt.operands.as_slice()).is_some()
+    match picked(true, spoken, stmt.lock, site, stmt.operands.as_slice()) {
+        Some(_) => true,
+        None => false,
+    }
 }
 
 // Whether whole operands are words, and other names registers.
@@ -169,10 +172,16 @@ fn operand_names_words(operand: &Operand) -> bool
         Operand::Word(name) => is_word(name.as_slice()),
         Operand::Mem { base, index: None, .. } => is_register(base.as_slice()),
         Operand::Mem { base, index: Some((index, _)), .. } => {
-            is_register(base.as_slice()) && is_register(index.as_slice())
+            are_registers(base.as_slice(), index.as_slice())
         }
-        Operand::Pair(first, second) => is_register(first.as_slice()) && is_register(second.as_slice()),
+        Operand::Pair(first, second) => are_registers(first.as_slice(), second.as_slice()),
         Operand::Shifted { reg, .. } => is_register(reg.as_slice()),
         _ => true,
     }
+}
+
+fn are_registers(one: &[u8], other: &[u8]) -> bool
+    ensures { IsTrue result ↔ (IsRegister one.now × IsRegister other.now) }
+{
+    is_register(one) && is_register(other)
 }
