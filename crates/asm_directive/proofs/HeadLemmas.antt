@@ -105,6 +105,7 @@ with_one count place name words =
         → behind count place (option_map (with_word name) words) ≡ behind (count + 1) (with_name place name (Some count)) words
     with_new None new = refl
     with_new (Some words) new = if_new count place name words new
+
     with_old : (words : Option Words) → is_none (place name) ≡ false → behind count place (option_map (with_word name) words) ≡ None
     with_old None there = refl
     with_old (Some words) there = unless_new count place name words there

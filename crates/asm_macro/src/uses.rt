@@ -138,7 +138,13 @@ fn read_use(
                 return Ok(Some(lower(found, Cause::Nesting)));
             }
             let pos = met.name.token.pos;
-            pending.push_all(substitution(alloc, pos, arguments.levels - 1, met.definition, lists)?)?;
+            pending.push_all(substitution(
+                alloc,
+                pos,
+                arguments.levels - 1,
+                met.definition,
+                lists,
+            )?)?;
             Ok(found)
         }
     }

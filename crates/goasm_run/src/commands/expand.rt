@@ -22,8 +22,8 @@ use crate::parts::read_parts;
 use crate::read::read_named;
 use crate::sources::{Sources, file_names, lexed};
 use crate::stop::Stop;
-use asm_lex::{Kind, Token, Tokens};
 use asm_directive::line_names;
+use asm_lex::{Kind, Token, Tokens};
 use asm_macro::{MacroNo, expand_named};
 use goasm_base::{Bytes, Memory, Name, Shelf, Text};
 use goasm_list::ListLine;
@@ -87,7 +87,12 @@ fn over_tokens(alloc: Global, names: Vec<Name>, found: &Sources) -> Result<Bytes
     let more = line_names(alloc, found.sources.as_slice(), found.includes.as_slice())?;
     let count = names.len();
     let files = with_more(names, more)?;
-    over_files(alloc, files.as_slice(), names_behind(files.as_slice(), count), found)
+    over_files(
+        alloc,
+        files.as_slice(),
+        names_behind(files.as_slice(), count),
+        found,
+    )
 }
 
 // The names behind this many others.
@@ -100,12 +105,7 @@ fn names_behind(files: &[Name], count: usize) -> &[Name]
 
 // The text over the tokens of the build and the names of its files, of which those of `#line` directives come last.
 #[tactic(auto, using(crate::proofs::FileLemmas::macro_named, crate::proofs::FileLemmas::macro_caused, crate::proofs::FileLemmas::macro_fault))]
-fn over_files(
-    alloc: Global,
-    files: &[Name],
-    lines: &[Name],
-    found: &Sources,
-) -> Result<Bytes, Stop>
+fn over_files(alloc: Global, files: &[Name], lines: &[Name], found: &Sources) -> Result<Bytes, Stop>
     requires lines { lines.now ≡ line_names_of found.now.sources.items found.now.includes.items }
     requires sources { All AreTokens found.now.sources.items }
     requires includes { All (λ include. AreTokens include.1) found.now.includes.items }
