@@ -3,23 +3,19 @@ use Rattle.std.proofs.Common.{◌≡◌, ℕ, suc, ◌+◌, ◌<◌, Bool, true,
 use Rattle.std.specs.Borrow.{Bor}
 use Rattle.std.specs.Option.{option_map}
 use Rattle.std.proofs.lemmas.List.{drop_all}
-use Rattle.std.proofs.lemmas.List.Folds.{list_any-append}
-use Rattle.std.proofs.Math.Bool.{or-false}
 use Rattle.asm_lex.specs.declared.token.Token.{Token}
 use Rattle.asm_lex.specs.declared.token.Tokens.{Tokens}
 use Rattle.asm_macro.specs.declared.macros.Macro.{Macro}
-use Rattle.asm_macro.specs.declared.names.NameMap.{NameMap}
+use Rattle.asm_directive.specs.declared.names.NameMap.{NameMap}
 use Rattle.asm_macro.specs.declared.refusal.MacroNo.{MacroNo}
-use Rattle.asm_macro.specs.Names.{Names, with_name}
+use Rattle.asm_directive.specs.Names.{Names, with_name}
 use Rattle.asm_macro.specs.Definitions.{Definitions}
-use Rattle.asm_macro.specs.LineNames.{is_among}
-use Rattle.goasm_base.specs.NameSet.{AddsName}
-use Rattle.asm_macro.specs.Seen.{Keeps}
 use Rattle.asm_macro.specs.Refusals.{◌>>=◌}
 use Rattle.asm_macro.specs.Files.{Context, State, read_file}
-use Rattle.asm_macro.specs.Builds.{greatest, included, defined, value_definition, started, expand_sources}
-use Rattle.asm_macro.specs.Views.{names_of, definition_of, macros_in, files_in, entered_of}
-use Rattle.asm_macro.proofs.NameLemmas.{map_name}
+use Rattle.asm_macro.specs.Builds.{greatest, included, defined, value_definition, start_state, expand_sources}
+use Rattle.asm_directive.specs.Views.{names_of}
+use Rattle.asm_macro.specs.Views.{definition_of, macros_in, files_in, entered_of}
+use Rattle.asm_macro.proofs.MacroNameLemmas.{map_name}
 
 pub greatest_append : (most : ℕ) (one other : List ℕ) → greatest most (one ++ other) ≡ greatest (greatest most one) other
 greatest_append most [] other = refl
@@ -85,15 +81,6 @@ included_next before after includes index item tokens whole inside is list puts 
     ∙ ap (λ (named : List Token). if is_some (files_in before item.0) then files_in before else with_name (files_in before) item.0 (Some named)) list in
     ap (λ files. included files (drop (index + 1) includes)) same ∙ step
 
--- a name that wasn't there
-pub keeps_more : (names : List (List ℕ)) (name : List ℕ) (before after : List (List ℕ))
-    → AddsName before after name → Keeps names before → Keeps (names ++ name ∷ []) after
-keeps_more names name before after adds keeps =
-    λ other. adds other
-    ∙ ap (λ there. there || bytes_eq name other) (keeps other)
-    ∙ ap (λ here. is_among other names || here) (sym (or-false (bytes_eq name other)))
-    ∙ sym (list_any-append (λ one. bytes_eq one other) names (name ∷ []))
-
 first_left : {T : Type 0} (items : List T) (index : ℕ) (item : T) → index < length items → item ≡ get_or items index item
     → drop index items ≡ item ∷ drop (index + 1) items
 first_left items index item inside is =
@@ -111,7 +98,7 @@ one_more front next (Err fault) = refl
 -- a source that is expanded, and one that is refused
 pub sources_next : (nesting : ℕ) (context : Context) (definitions : Definitions) (room uses : ℕ) (done after sources : List Tokens) (index : ℕ) (item : Tokens) (state : State)
     → index < length sources → item ≡ get_or sources index item
-    → read_file nesting context item.list (started definitions room uses) ≡ Ok state
+    → read_file nesting context item.list (start_state definitions room uses) ≡ Ok state
     → after ≡ done ++ record { file = item.file; list = state.work.out } ∷ []
     → with_front done (expand_sources nesting context definitions room uses (drop index sources))
     ≡ with_front after (expand_sources nesting context definitions state.work.room state.work.uses (drop (index + 1) sources))
@@ -122,7 +109,7 @@ sources_next nesting context definitions room uses done after sources index item
 
 pub sources_refused : (nesting : ℕ) (context : Context) (definitions : Definitions) (room uses : ℕ) (done sources : List Tokens) (index : ℕ) (item : Tokens) (fault : MacroNo)
     → index < length sources → item ≡ get_or sources index item
-    → read_file nesting context item.list (started definitions room uses) ≡ Err fault
+    → read_file nesting context item.list (start_state definitions room uses) ≡ Err fault
     → with_front done (expand_sources nesting context definitions room uses (drop index sources)) ≡ Err fault
 unfolding expand_sources
 sources_refused nesting context definitions room uses done sources index item fault inside is reads =

@@ -4,10 +4,10 @@ use Rattle.std.proofs.lemmas.List.{drop_all}
 use Rattle.asm_lex.specs.declared.token.Token.{Token}
 use Rattle.asm_macro.specs.declared.refusal.MacroNo.{MacroNo}
 use Rattle.asm_macro.specs.declared.condition.Condition.{Condition}
-use Rattle.asm_macro.specs.declared.statements.Statement as declared
-use Rattle.asm_macro.specs.Statements.{statements_of}
+use Rattle.asm_directive.specs.declared.statements.Statement as declared
+use Rattle.asm_directive.specs.Statements.{statements_of}
 use Rattle.asm_macro.specs.Files.{Context, State, Place, Step, top, read_statement, end_file, read_statements, read_file}
-use Rattle.asm_macro.specs.Views.{statement_of}
+use Rattle.asm_directive.specs.Views.{statement_of}
 
 -- how a file is read that is included where so many levels are left
 pub next_file : ℕ → Context → List Token → State → Result State MacroNo

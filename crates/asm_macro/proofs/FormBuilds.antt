@@ -7,12 +7,13 @@ use Rattle.asm_lex.specs.declared.token.Tokens.{Tokens}
 use Rattle.asm_lex.specs.Form.{AreTokens}
 use Rattle.asm_macro.specs.declared.refusal.MacroNo.{MacroNo}
 use Rattle.asm_macro.specs.declared.limits.Limits.{Limits}
-use Rattle.asm_macro.specs.Names.{Names, nothing, with_name}
+use Rattle.asm_directive.specs.Names.{Names, nothing, with_name}
 use Rattle.asm_macro.specs.Definitions.{Definitions}
 use Rattle.asm_macro.specs.Refusals.{◌>>=◌}
 use Rattle.asm_macro.specs.Places.{StandIn, RefusedIn}
 use Rattle.asm_macro.specs.Files.{Context, State, define, include, read_file}
-use Rattle.asm_macro.specs.Builds.{token_count, included, value_definition, first_pos, defined, started, expand_sources, context_for, expansion}
+use Rattle.asm_directive.specs.LineNames.{token_count}
+use Rattle.asm_macro.specs.Builds.{included, value_definition, first_pos, defined, start_state, expand_sources, context_for, expansion}
 use Rattle.asm_macro.proofs.RefusalLemmas.{Holds, holds_then, holds_either}
 use Rattle.asm_macro.proofs.FormLemmas.{IsFormed, Formed, IsSound, Sound, FormedDefinitions}
 use Rattle.asm_macro.proofs.FormStatements.{formed_of, AreGood}
@@ -88,7 +89,7 @@ more_results P most file state others good rest =
       count = omega (arith, good.work.made.count, rest.count, sum_by-cons (λ tokens. length tokens.list) tokens others);
     }
 
-start_good : (P : ℕ → Type 0) (definitions : Definitions) (room uses : ℕ) → FormedDefinitions definitions → GoodState P room (started definitions room uses)
+start_good : (P : ℕ → Type 0) (definitions : Definitions) (room uses : ℕ) → FormedDefinitions definitions → GoodState P room (start_state definitions room uses)
 start_good P definitions room uses all = record {
   macros = all;
   work = record { made = record { out = All-nil (IsSound P); count = omega arith }; ends = tt };
@@ -100,9 +101,9 @@ sources_good : (P : ℕ → Type 0) (nesting : ℕ) (context : Context) (definit
 unfolding expand_sources
 sources_good P nesting context definitions room uses [] files all good = record { forms = All-nil AreTokens; places = All-nil (StandIn P); count = omega arith }
 sources_good P nesting context definitions room uses (tokens ∷ sources) files all good =
-    holds_then (GoodState P room) (GoodResults P room) (RefusedIn P) (read_file nesting context tokens.list (started definitions room uses))
+    holds_then (GoodState P room) (GoodResults P room) (RefusedIn P) (read_file nesting context tokens.list (start_state definitions room uses))
     (λ state. expand_sources nesting context definitions state.work.room state.work.uses sources >>= λ others. Ok (record { file = tokens.file; list = state.work.out } ∷ others))
-    (file_good P room nesting context tokens.list (started definitions room uses) files (good_file P tokens (All-head (IsGoodFile P) tokens sources good)) (start_good P definitions room uses all))
+    (file_good P room nesting context tokens.list (start_state definitions room uses) files (good_file P tokens (All-head (IsGoodFile P) tokens sources good)) (start_good P definitions room uses all))
     (λ state made. holds_then (GoodResults P state.work.room) (GoodResults P room) (RefusedIn P) (expand_sources nesting context definitions state.work.room state.work.uses sources)
     (λ others. Ok (record { file = tokens.file; list = state.work.out } ∷ others))
     (sources_good P nesting context definitions state.work.room state.work.uses sources files all (All-tail (IsGoodFile P) tokens sources good))

@@ -1,6 +1,7 @@
 -- What is read and put out has the form of tokens and stands in one of these files: files.
 use Rattle.std.proofs.Common.{◌≡◌, ℕ, zero, suc, ◌+◌, ◌&&◌, ◌||◌, ◌==◌, Bool, true, false, List, [], ◌∷◌, All, Option, Some, None, is_some, is_none, Result, Ok, inl, inr, refl, bytes_eq, if◌then◌else◌, not}
 use Rattle.std.specs.List.{before_first}
+use Rattle.std.specs.Option.{option_map}
 use Rattle.std.proofs.lemmas.Bool.{cases_Bool}
 use Rattle.std.proofs.lemmas.List.Elements.{All-nil, All-cons, All-head, All-tail, All-map, All-take, All-from_recursion}
 use Rattle.goasm_base.specs.declared.pos.Pos.{Pos}
@@ -11,23 +12,23 @@ use Rattle.asm_lex.specs.Numbers.{number_value}
 use Rattle.asm_macro.specs.declared.mapping.Mapping.{Mapping}
 use Rattle.asm_macro.specs.declared.condition.Condition.{Condition}
 use Rattle.asm_macro.specs.declared.refusal.MacroNo.{MacroNo}
-use Rattle.asm_macro.specs.declared.keyword.Keyword.{Keyword}
-use Rattle.asm_macro.specs.declared.keyword.Keyword.TheVariants as keywords
+use Rattle.asm_directive.specs.declared.keyword.Keyword.{Keyword}
+use Rattle.asm_directive.specs.declared.keyword.Keyword.TheVariants as keywords
 use Rattle.asm_macro.specs.declared.built_in.BuiltIn.{BuiltIn}
 use Rattle.asm_macro.specs.declared.built_in.BuiltIn.TheVariants.{Textflag, Funcdata}
 use Rattle.asm_macro.specs.declared.built_in.Row.{Row}
-use Rattle.asm_macro.specs.Names.{Names, nothing, with_name}
-use Rattle.asm_macro.specs.Tokens.{is_word, is_end, is_newline, is_sign, opening, closing, comma}
-use Rattle.asm_macro.specs.Definitions.{Definition, Definitions}
+use Rattle.asm_directive.specs.Names.{Names, nothing, with_name}
+use Rattle.asm_directive.specs.Tokens.{is_word, is_end, is_newline, is_sign, opening, closing, comma}
+use Rattle.asm_macro.specs.Definitions.{Definition, Definitions, definition_by}
 use Rattle.asm_macro.specs.Refusals.{◌>>=◌}
 use Rattle.asm_macro.specs.Places.{RefusedIn}
 use Rattle.asm_macro.specs.Uses.{placed_at, expand_statement}
-use Rattle.asm_macro.specs.Statements.{Statement, statements_of}
-use Rattle.asm_macro.specs.Directives.{keyword_of, Head, head_from, head_in, Named, LineMark, with_head, definition_behind, definition_in, name_in, quoted_in, mark_in}
-use Rattle.asm_macro.specs.Conditions.{is_taken, judged, skipped, conditions_after_else, conditions_after_endif}
-use Rattle.asm_macro.specs.Positions.{moved, mapping_from}
+use Rattle.asm_directive.specs.Statements.{Statement, statements_of, rest_of}
+use Rattle.asm_directive.specs.Directives.{keyword_of, Head, Words, with_word, words_in, are_distinct, head_by, head_in, Named, LineMark, with_head, definition_behind, definition_in, name_in, quoted_in, mark_in}
+use Rattle.asm_macro.specs.Conditions.{is_taken, counted_condition, uncounted_condition, conditions_after_else, conditions_after_endif}
+use Rattle.asm_macro.specs.Positions.{mapped_pos, mapping_from}
 use Rattle.asm_macro.specs.BuiltIn.{built_in_named, textflag, funcdata, rows_of, is_defined_by, row_definition, with_rows}
-use Rattle.asm_macro.specs.Files.{Context, State, Place, Step, Inclusion, Inner, top, step_at, with_conditions, with_definitions, define, undefine, count_use, include_built_in, include_named, include, open_condition, balanced_place, mapped_place, mark, is_empty, execute, skip, read_directive, rest_of, placed_in, read_plain, end_line, read_statement, end_file, read_entered, read_statements, read_file}
+use Rattle.asm_macro.specs.Files.{Context, State, Place, Step, Inclusion, Inner, top, step_at, with_conditions, with_definitions, define, undefine, count_use, include_built_in, include_named, include, open_condition, balanced_place, mapped_place, mark, is_empty, execute, skip, read_directive, placed_in, read_plain, end_line, read_statement, end_file, read_entered, read_statements, read_file}
 use Rattle.asm_macro.proofs.RefusalLemmas.{Holds, holds_then, holds_either}
 use Rattle.asm_macro.proofs.FormLemmas.{IsFormed, Formed, IsSound, Sound, LastEnd, Ready, FormedDefinitions, GoodWork, placed_sound, is_end_from, ready_goes, run_sound}
 use Rattle.asm_macro.proofs.FormStatements.{formed_of, AreGood, AreEnded, GoodStatement, statements_good}
@@ -38,25 +39,38 @@ abbrev GoodHead : Option Head → Type 0
 GoodHead None = Unit {0}
 GoodHead (Some head) = Formed head.body
 
-head_from_good : (wants : Bool) (count : ℕ) (place : Names ℕ) (tokens : List Token) → Formed tokens → GoodHead (head_from wants count place tokens)
-unfolding head_from
-head_from_good wants count place [] formed = tt
-head_from_good true count place (token ∷ tokens) formed =
-    holds_either GoodHead (is_word token && is_none (place token.text)) _ _
-    (head_from_good false (count + 1) (with_name place token.text (Some count)) tokens (All-tail IsFormed token tokens formed)) tt
-head_from_good false count place (token ∷ tokens) formed =
-    holds_either GoodHead (is_sign closing token) _ _ (All-tail IsFormed token tokens formed)
-    (holds_either GoodHead (is_sign comma token) _ _ (head_from_good true count place tokens (All-tail IsFormed token tokens formed)) tt)
+abbrev GoodWords : Option Words → Type 0
+GoodWords None = Unit {0}
+GoodWords (Some words) = Formed words.rest
+
+with_word_good : (name : List ℕ) (words : Option Words) → GoodWords words → GoodWords (option_map (with_word name) words)
+with_word_good name None good = tt
+with_word_good name (Some words) good = good
+
+words_good : (tokens : List Token) → Formed tokens → GoodWords (words_in tokens)
+unfolding words_in
+words_good [] formed = tt
+words_good (word ∷ []) formed = tt
+words_good (word ∷ next ∷ tokens) formed =
+    let rest : Formed tokens = All-tail IsFormed next tokens (All-tail IsFormed word (next ∷ tokens) formed) in
+    holds_either GoodWords (is_word word) _ _
+    (holds_either GoodWords (is_sign closing next) _ _ rest
+    (holds_either GoodWords (is_sign comma next) _ _ (with_word_good word.text (words_in tokens) (words_good tokens rest)) tt)) tt
+
+head_by_good : (words : Option Words) → GoodWords words → GoodHead (head_by words)
+head_by_good None good = tt
+head_by_good (Some words) good = holds_either GoodHead (are_distinct words.names) _ _ good tt
 
 head_in_good : (tokens : List Token) → Formed tokens → GoodHead (head_in tokens)
 unfolding head_in
 head_in_good [] formed = tt
 head_in_good (token ∷ tokens) formed =
-    holds_either GoodHead (is_sign closing token) _ _ (All-tail IsFormed token tokens formed) (head_from_good true 0 nothing (token ∷ tokens) formed)
+    holds_either GoodHead (is_sign closing token) _ _ (All-tail IsFormed token tokens formed)
+    (head_by_good (words_in (token ∷ tokens)) (words_good (token ∷ tokens) formed))
 
 abbrev GoodNamed : Option Named → Type 0
 GoodNamed None = Unit {0}
-GoodNamed (Some named) = Formed named.definition.body
+GoodNamed (Some named) = Formed named.body
 
 with_head_good : (name : List ℕ) (head : Option Head) → GoodHead head → GoodNamed (with_head name head)
 with_head_good name None good = tt
@@ -112,7 +126,7 @@ unfolding define
 define_good P most pos None state here body good = here
 define_good P most pos (Some named) state here body good =
     holds_either (StateOrRefusal P most) (is_some (state.definitions named.name)) _ _ here
-    (with_macros P most state _ good (named_good state.definitions named.name (Some named.definition) good.macros (some_good named.definition body)))
+    (with_macros P most state _ good (named_good state.definitions named.name (Some (definition_by named)) good.macros (some_good (definition_by named) body)))
 
 undefine_good : (P : ℕ → Type 0) (most : ℕ) (pos : Pos) (name : Option (List ℕ)) (state : State)
     → P pos.file → GoodState P most state → StateOrRefusal P most (undefine pos name state)
@@ -244,8 +258,8 @@ pub record GoodPlace (P : ℕ → Type 0) (place : Place) : Type 0 where
 abbrev PlaceOrRefusal : (ℕ → Type 0) → Result Place MacroNo → Type 0
 PlaceOrRefusal P answer = Holds (GoodPlace P) (RefusedIn P) answer
 
-moved_in : (P : ℕ → Type 0) (mapping : Option Mapping) (pos : Pos) → GoodMapping P mapping → P pos.file → P (moved mapping pos).file
-unfolding moved
+moved_in : (P : ℕ → Type 0) (mapping : Option Mapping) (pos : Pos) → GoodMapping P mapping → P pos.file → P (mapped_pos mapping pos).file
+unfolding mapped_pos
 moved_in P None pos good here = here
 moved_in P (Some mapping) pos good here = good
 
@@ -261,7 +275,7 @@ open_condition_good : (P : ℕ → Type 0) (wanted : Bool) (pos : Pos) (name : O
 unfolding open_condition
 open_condition_good P wanted pos None definitions place here good = here
 open_condition_good P wanted pos (Some name) definitions place here good =
-    more_conditions P place (judged pos (if wanted then is_some (definitions name) else not (is_some (definitions name)))) good here
+    more_conditions P place (counted_condition pos (if wanted then is_some (definitions name) else not (is_some (definitions name)))) good here
 
 abbrev ConditionsIf : (ℕ → Type 0) → Option (List Condition) → Type 0
 ConditionsIf P None = Unit {0}
@@ -271,20 +285,20 @@ after_else_good : (P : ℕ → Type 0) (alone : Bool) (conditions : List Conditi
 unfolding conditions_after_else
 after_else_good P alone [] all = tt
 after_else_good P alone (condition ∷ conditions) all =
-    holds_either (ConditionsIf P) (condition.has_else || (condition.judged && not alone)) None (Some (record {
+    holds_either (ConditionsIf P) (condition.has_else || (condition.counts && not alone)) None (Some (record {
       pos = condition.pos;
-      judged = condition.judged;
-      taken = condition.judged && not condition.taken;
+      counts = condition.counts;
+      taken = condition.counts && not condition.taken;
       has_else = true;
     } ∷ conditions)) tt
-    (All-cons (λ condition. P condition.pos.file) (record { pos = condition.pos; judged = condition.judged; taken = condition.judged && not condition.taken; has_else = true }) conditions
+    (All-cons (λ condition. P condition.pos.file) (record { pos = condition.pos; counts = condition.counts; taken = condition.counts && not condition.taken; has_else = true }) conditions
     (All-head (λ condition. P condition.pos.file) condition conditions all) (All-tail (λ condition. P condition.pos.file) condition conditions all))
 
 after_endif_good : (P : ℕ → Type 0) (alone : Bool) (conditions : List Condition) → GoodConditions P conditions → ConditionsIf P (conditions_after_endif alone conditions)
 unfolding conditions_after_endif
 after_endif_good P alone [] all = tt
 after_endif_good P alone (condition ∷ conditions) all =
-    holds_either (ConditionsIf P) (condition.judged && not alone) None (Some conditions) tt (All-tail (λ condition. P condition.pos.file) condition conditions all)
+    holds_either (ConditionsIf P) (condition.counts && not alone) None (Some conditions) tt (All-tail (λ condition. P condition.pos.file) condition conditions all)
 
 balanced_good : (P : ℕ → Type 0) (pos : Pos) (place : Place) (conditions : Option (List Condition))
     → P pos.file → GoodPlace P place → ConditionsIf P conditions → PlaceOrRefusal P (balanced_place pos place conditions)
@@ -359,8 +373,8 @@ unfolding skip
 skip_good P pos words place keywords.Define here there = there
 skip_good P pos words place keywords.Undef here there = there
 skip_good P pos words place keywords.Include here there = there
-skip_good P pos words place keywords.Ifdef here there = more_conditions P place (skipped pos) there here
-skip_good P pos words place keywords.Ifndef here there = more_conditions P place (skipped pos) there here
+skip_good P pos words place keywords.Ifdef here there = more_conditions P place (uncounted_condition pos) there here
+skip_good P pos words place keywords.Ifndef here there = more_conditions P place (uncounted_condition pos) there here
 skip_good P pos words place keywords.Else here there =
     balanced_good P pos place (conditions_after_else (is_empty words) place.conditions) here there (after_else_good P (is_empty words) place.conditions there.conditions)
 skip_good P pos words place keywords.Endif here there =
@@ -383,13 +397,13 @@ kind_at pos levels token is = is_end_from (record token { pos = pos }) is
 
 last_end : (mapping : Option Mapping) (levels : ℕ) (tokens : List Token) → AreEnded tokens → LastEnd (placed_in mapping levels tokens)
 last_end mapping levels [] ended = absurd ended
-last_end mapping levels (token ∷ []) ended = kind_at (moved mapping token.pos) levels token ended
+last_end mapping levels (token ∷ []) ended = kind_at (mapped_pos mapping token.pos) levels token ended
 last_end mapping levels (token ∷ next ∷ tokens) ended = last_end mapping levels (next ∷ tokens) ended
 
 placed_ready : (P : ℕ → Type 0) (mapping : Option Mapping) (levels : ℕ) (tokens : List Token)
     → GoodMapping P mapping → Sound P tokens → AreEnded tokens → Ready P (placed_in mapping levels tokens)
 placed_ready P mapping levels tokens good sound ended = record {
-  forms = All-map (λ placed. IsSound P placed.token) (λ token. placed_at (moved mapping token.pos) levels token) tokens
+  forms = All-map (λ placed. IsSound P placed.token) (λ token. placed_at (mapped_pos mapping token.pos) levels token) tokens
       (λ k d inside. placed_sound P _ levels _ (moved_in P mapping _ good (sound k d inside).place) (sound k d inside).form);
   last = last_end mapping levels tokens ended;
 }
@@ -418,11 +432,11 @@ statement_good P most context levels true [] place state files sound ends there 
 statement_good P most context levels false [] place state files sound ends there good = record { place = there; here = good; next = tt }
 statement_good P most context levels true (first ∷ tokens) place state files sound ends there good =
     let words : List Token = before_first is_newline tokens in
-    directive_good P most context levels (moved place.mapping first.pos) (end_line first (first ∷ tokens)) (rest_of words) place state (keyword_of words)
+    directive_good P most context levels (mapped_pos place.mapping first.pos) (end_line first (first ∷ tokens)) (rest_of words) place state (keyword_of words)
     (moved_in P place.mapping first.pos there.mapping (All-head (IsSound P) first tokens sound).place) files
     (rest_formed words (All-take IsFormed _ tokens (formed_of P tokens (All-tail (IsSound P) first tokens sound)))) there good
 statement_good P most context levels false (first ∷ tokens) place state files sound ends there good =
-    plain_good P most levels (moved place.mapping first.pos) (first ∷ tokens) place state
+    plain_good P most levels (mapped_pos place.mapping first.pos) (first ∷ tokens) place state
     (moved_in P place.mapping first.pos there.mapping (All-head (IsSound P) first tokens sound).place) sound (ends refl) there good
 
 -- a file

@@ -1,5 +1,5 @@
 -- What is read and put out has the form of tokens and stands in one of these files: statements and their uses.
-use Rattle.std.proofs.Common.{◌≡◌, ℕ, zero, suc, ◌+◌, ◌-◌, ◌<◌, ◌&&◌, ◌==◌, nat_eq, Bool, true, false, List, [], ◌∷◌, ◌++◌, length, get_or, All, Option, Some, None, Result, inl, inr, refl, sym, ◌∙◌, if◌then◌else◌, arith, length-append}
+use Rattle.std.proofs.Common.{◌≡◌, ℕ, zero, suc, ◌+◌, ◌-◌, ◌<◌, ◌&&◌, ◌==◌, nat_eq, Bool, true, false, List, [], ◌∷◌, ◌++◌, length, get_or, All, Option, Some, None, Result, inl, inr, refl, sym, subst, ◌∙◌, if◌then◌else◌, arith, length-append}
 use Rattle.std.proofs.lemmas.Bool.{cases_Bool, cases_lt}
 use Rattle.std.proofs.lemmas.Bool.Decides.{nat_tests}
 use Rattle.std.proofs.lemmas.List.Elements.{All-nil, All-cons, All-head, All-tail, All-append, All-push, All-map, All-get_or}
@@ -15,13 +15,15 @@ use Rattle.asm_macro.specs.declared.arguments.Part.TheVariants.{End, Close, Comm
 use Rattle.asm_macro.specs.declared.refusal.MacroNo.{MacroNo}
 use Rattle.asm_macro.specs.declared.cause.Cause.{Cause}
 use Rattle.asm_macro.specs.declared.cause.Cause.TheVariants.{ArgumentCount, MissingArguments, Nesting, TooMany}
-use Rattle.asm_macro.specs.Tokens.{is_word_kind, is_sign_kind, is_end_kind, is_word, is_end, is_sign, opening}
-use Rattle.asm_macro.specs.Definitions.{Parameters, Definition, Definitions, in_force}
-use Rattle.asm_macro.specs.Arguments.{Arguments, part_of, arguments_from, arguments_behind, taken_by, fit}
+use Rattle.asm_directive.specs.Tokens.{is_word_kind, is_sign_kind, is_end_kind, is_word, is_end, is_sign, opening}
+use Rattle.asm_directive.specs.Directives.{Parameters}
+use Rattle.asm_macro.specs.Definitions.{Definition, Definitions, in_force}
+use Rattle.asm_macro.specs.Arguments.{Arguments, part_of, arguments_behind, taken_by, fit}
 use Rattle.asm_macro.specs.Refusals.{lower, refusal}
 use Rattle.asm_macro.specs.Places.{RefusedIn}
-use Rattle.asm_macro.specs.Uses.{Work, Read, Front, Ended, Full, Met, placed_at, parameter_in, standing, filled, use_with, use_of, passed, front, ended, with_uses, run}
+use Rattle.asm_macro.specs.Uses.{Work, Read, Front, Ended, Full, Met, placed_at, parameter_in, tokens_for, substitution, use_with, use_of, limit_cause, front, ended, with_uses, run}
 use Rattle.asm_macro.proofs.RefusalLemmas.{Holds, holds_either}
+use Rattle.asm_macro.proofs.ArgumentLemmas.{arguments_with, from_is}
 use Rattle.asm_macro.proofs.UseLemmas.{run_ended, run_full, run_passed, run_next}
 
 abbrev pub IsFormed : Token → Type 0
@@ -124,26 +126,26 @@ GoodArguments P (Some arguments) = ReadyArguments P arguments
 by_part : (P : ℕ → Type 0) (nest : ℕ) (lists : List (List Placed)) (list : List Placed) (placed : Placed) (rest : List Placed) (part : Part)
     → part_of nest placed ≡ part
     → ReadyArguments P (record { lists = lists ++ list ∷ []; levels = placed.levels; rest = rest })
-    → GoodArguments P (arguments_from nest (lists ++ list ∷ []) [] rest)
-    → ((deeper : ℕ) → GoodArguments P (arguments_from deeper lists (list ++ placed ∷ []) rest))
-    → GoodArguments P (arguments_from nest lists list (placed ∷ rest))
-unfolding arguments_from
-by_part P nest lists list placed rest End is closed comma inside = rw (is, arguments_from) tt
-by_part P nest lists list placed rest Close is closed comma inside = rw (is, arguments_from) closed
-by_part P nest lists list placed rest Comma is closed comma inside = rw (is, arguments_from) comma
-by_part P nest lists list placed rest (Inside deeper) is closed comma inside = rw (is, arguments_from) (inside deeper)
+    → GoodArguments P (arguments_with nest (lists ++ list ∷ []) [] rest)
+    → ((deeper : ℕ) → GoodArguments P (arguments_with deeper lists (list ++ placed ∷ []) rest))
+    → GoodArguments P (arguments_with nest lists list (placed ∷ rest))
+unfolding arguments_with
+by_part P nest lists list placed rest End is closed comma inside = rw (is, arguments_with) tt
+by_part P nest lists list placed rest Close is closed comma inside = rw (is, arguments_with) closed
+by_part P nest lists list placed rest Comma is closed comma inside = rw (is, arguments_with) comma
+by_part P nest lists list placed rest (Inside deeper) is closed comma inside = rw (is, arguments_with) (inside deeper)
 
 ends_part : (nest : ℕ) (placed : Placed) → is_end placed.token ≡ true → part_of nest placed ≡ End
 unfolding part_of
 ends_part nest placed is = rw is refl
 
 at_end_none : (P : ℕ → Type 0) (nest : ℕ) (lists : List (List Placed)) (list : List Placed) (placed : Placed) (rest : List Placed)
-    → is_end placed.token ≡ true → GoodArguments P (arguments_from nest lists list (placed ∷ rest))
-unfolding arguments_from
-at_end_none P nest lists list placed rest is = rw (ends_part nest placed is, arguments_from) tt
+    → is_end placed.token ≡ true → GoodArguments P (arguments_with nest lists list (placed ∷ rest))
+unfolding arguments_with
+at_end_none P nest lists list placed rest is = rw (ends_part nest placed is, arguments_with) tt
 
 arguments_sound : (P : ℕ → Type 0) (nest : ℕ) (lists : List (List Placed)) (list : List Placed) (pending : List Placed)
-    → All (SoundPlaced P) lists → SoundPlaced P list → Ready P pending → GoodArguments P (arguments_from nest lists list pending)
+    → All (SoundPlaced P) lists → SoundPlaced P list → Ready P pending → GoodArguments P (arguments_with nest lists list pending)
 arguments_sound P nest lists list [] some sound ready = absurd ready.last
 arguments_sound P nest lists list (placed ∷ rest) some sound ready =
     elim (cases_Bool (is_end placed.token)) [
@@ -163,8 +165,9 @@ unfolding arguments_behind
 behind_sound P [] ready = absurd ready.last
 behind_sound P (placed ∷ rest) ready =
     elim (cases_Bool (is_sign opening placed.token)) [
-      | inl opens ↦ rw opens (arguments_sound P 0 [] [] rest (All-nil (SoundPlaced P)) (All-nil (λ placed. IsSound P placed.token))
-          (ready_rest P placed rest (sign_goes opening placed.token opens) ready))
+      | inl opens ↦ rw opens (subst (GoodArguments P) (from_is rest)
+          (arguments_sound P 0 [] [] rest (All-nil (SoundPlaced P)) (All-nil (λ placed. IsSound P placed.token))
+          (ready_rest P placed rest (sign_goes opening placed.token opens) ready)))
       | inr other ↦ rw other tt
     ]
 
@@ -184,7 +187,7 @@ list_sound P lists place all =
     ]
 
 standing_sound : (P : ℕ → Type 0) (pos : Pos) (levels : ℕ) (lists : List (List Placed)) (token : Token) (place : Option ℕ)
-    → P pos.file → All (SoundPlaced P) lists → IsFormed token → SoundPlaced P (standing pos levels lists token place)
+    → P pos.file → All (SoundPlaced P) lists → IsFormed token → SoundPlaced P (tokens_for pos levels lists token place)
 standing_sound P pos levels lists token None here all formed =
     All-cons (λ placed. IsSound P placed.token) (placed_at pos levels token) [] (placed_sound P pos levels token here formed) (All-nil (λ placed. IsSound P placed.token))
 standing_sound P pos levels lists token (Some place) here all formed =
@@ -192,11 +195,11 @@ standing_sound P pos levels lists token (Some place) here all formed =
     (λ k d inside. placed_sound P pos levels (get_or (get_or lists place []) k d).token here (list_sound P lists place all k d inside).form)
 
 filled_sound : (P : ℕ → Type 0) (pos : Pos) (levels : ℕ) (parameters : Option Parameters) (lists : List (List Placed)) (body : List Token)
-    → P pos.file → All (SoundPlaced P) lists → Formed body → SoundPlaced P (filled pos levels parameters lists body)
-unfolding filled
+    → P pos.file → All (SoundPlaced P) lists → Formed body → SoundPlaced P (substitution pos levels parameters lists body)
+unfolding substitution
 filled_sound P pos levels parameters lists [] here all formed = All-nil (λ placed. IsSound P placed.token)
 filled_sound P pos levels parameters lists (token ∷ body) here all formed =
-    All-append (λ placed. IsSound P placed.token) (standing pos levels lists token (parameter_in parameters token)) (filled pos levels parameters lists body)
+    All-append (λ placed. IsSound P placed.token) (tokens_for pos levels lists token (parameter_in parameters token)) (substitution pos levels parameters lists body)
     (standing_sound P pos levels lists token (parameter_in parameters token) here all (All-head IsFormed token body formed))
     (filled_sound P pos levels parameters lists body here all (All-tail IsFormed token body formed))
 
@@ -342,7 +345,7 @@ run_by P most uses definitions pos found pending work (Ended next) here is good 
 run_by P most uses definitions pos found pending work Full here is good on =
     rw (run_full uses definitions pos found pending work is) (refusal_in P (lower found TooMany) pos here)
 run_by P most zero definitions pos found pending work (Met name definition rest next) here is good on =
-    rw (run_passed zero definitions pos found pending rest work next name definition refl is) (refusal_in P (lower found (passed definition name rest)) pos here)
+    rw (run_passed zero definitions pos found pending rest work next name definition refl is) (refusal_in P (lower found (limit_cause definition name rest)) pos here)
 run_by P most (suc uses) definitions pos found pending work (Met name definition rest next) here is good on =
     rw (run_next (suc uses) definitions pos found pending rest work next name definition (use_of found definition name rest) (omega arith) is refl)
     (on name definition rest next good (omega arith))

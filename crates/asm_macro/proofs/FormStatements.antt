@@ -6,8 +6,8 @@ use Rattle.std.proofs.lemmas.List.Elements.{All-nil, All-cons, All-head, All-tai
 use Rattle.asm_lex.specs.declared.token.Kind.TheVariants as kinds
 use Rattle.asm_lex.specs.declared.token.Token.{Token}
 use Rattle.asm_lex.specs.Form.{EndsWithEnd}
-use Rattle.asm_macro.specs.Tokens.{is_end, is_newline}
-use Rattle.asm_macro.specs.Statements.{Statement, split_inclusive, begins_with_hash, directive, plain, statements_on, statements_of}
+use Rattle.asm_directive.specs.Tokens.{is_end, is_newline}
+use Rattle.asm_directive.specs.Statements.{Statement, split_inclusive, begins_with_hash, directive, plain, statements_on, statements_of}
 use Rattle.asm_macro.proofs.RefusalLemmas.{holds_either}
 use Rattle.asm_macro.proofs.FormLemmas.{IsFormed, Formed, IsSound, Sound, end_is}
 

@@ -1,7 +1,7 @@
-pub mod NameLemmas
+pub mod ArgumentLemmas
+pub mod NumberLemmas
+pub mod MacroNameLemmas
 pub mod BracketLemmas
-pub mod StatementLemmas
-pub mod LineNameLemmas
 pub mod BuildLemmas
 pub mod RefusalLemmas
 pub mod UseLemmas
@@ -12,4 +12,3 @@ pub mod FormStatements
 pub mod FormFiles
 pub mod FormBuilds
 pub mod PlaceLemmas
-pub mod TextLemmas

@@ -5,11 +5,13 @@ use Rattle.asm_lex.specs.declared.token.Tokens.{Tokens}
 use Rattle.asm_macro.specs.declared.refusal.MacroNo.{MacroNo}
 use Rattle.asm_macro.specs.declared.limits.Limits.{Limits}
 use Rattle.asm_macro.specs.declared.files.Environment.{Environment}
-use Rattle.asm_macro.specs.Names.{Names, nothing}
+use Rattle.asm_directive.specs.Names.{Names, nothing}
 use Rattle.asm_macro.specs.Definitions.{Definitions}
 use Rattle.asm_macro.specs.Files.{Context}
-use Rattle.asm_macro.specs.Builds.{line_names_of, greatest_file, numbered, included, defined, expand_sources, context_for, expansion, limits, Done, Refused, outcome, outcome_of}
-use Rattle.asm_macro.specs.Views.{names_of, files_in, context_of}
+use Rattle.asm_directive.specs.LineNames.{line_names_of}
+use Rattle.asm_macro.specs.Builds.{greatest_file, numbered, included, defined, expand_sources, context_for, expansion, limits, Done, Refused, outcome, outcome_of}
+use Rattle.asm_directive.specs.Views.{names_of}
+use Rattle.asm_macro.specs.Views.{files_in, context_of}
 
 pub ok_then : {A B : Type 0} (P Q : A → Type 0) (answer : Result A B) → ((x : A) → P x → Q x) → IfOk answer P → IfOk answer Q
 ok_then P Q (Ok x) step holds = step x holds
@@ -24,7 +26,7 @@ made includes files = record { includes = includes; files = files }
 
 pub context_is : (environment : Environment) (sources : List Tokens) (includes defines : List (List ℕ × Tokens))
     → files_in environment.includes ≡ included nothing includes
-    → names_of environment.files ≡ numbered (greatest_file sources includes defines + 1) nothing (line_names_of sources includes)
+    → names_of environment.files ≡ numbered (greatest_file sources includes defines + 1) (line_names_of sources includes)
     → context_of environment ≡ context_for sources includes defines
 unfolding context_of made
 context_is environment sources includes defines one other =

@@ -1,17 +1,19 @@
 -- The files in which the results of a build and its refusals stand.
-use Rattle.std.proofs.Common.{◌≡◌, ℕ, suc, ◌+◌, ◌<◌, ◌≤◌, max, List, [], ◌∷◌, ◌++◌, length, map, All, Option, Some, Result, Ok, Err, bytes_eq, arith}
+use Rattle.std.proofs.Common.{◌≡◌, ℕ, suc, ◌+◌, ◌<◌, ◌≤◌, max, List, [], ◌∷◌, ◌++◌, length, map, All, Option, Some, is_some, Result, Ok, Err, bytes_eq, arith, subst}
 use Rattle.std.proofs.lemmas.List.Elements.{All-nil, All-cons}
 use Rattle.asm_lex.specs.declared.token.Tokens.{Tokens}
 use Rattle.asm_lex.specs.Form.{AreTokens}
 use Rattle.asm_macro.specs.declared.refusal.MacroNo.{MacroNo}
 use Rattle.asm_macro.specs.declared.refusal.MacroNo.TheVariants.{M1, M2, M3, M4, M5, M6, M7, Memory}
 use Rattle.asm_macro.specs.declared.limits.Limits.{Limits}
-use Rattle.asm_macro.specs.Names.{Names, nothing, with_name}
+use Rattle.asm_directive.specs.Names.{Names, nothing, with_name}
 use Rattle.asm_macro.specs.Refusals.{Refuses}
-use Rattle.asm_macro.specs.Builds.{line_names_of, greatest, greatest_file, numbered, context_for, expansion}
+use Rattle.asm_directive.specs.LineNames.{line_names_of}
+use Rattle.asm_macro.specs.Builds.{greatest, greatest_file, context_for, expansion}
 use Rattle.asm_macro.specs.Places.{file_count, AreInTheirFile, ArePlaced, RefusedIn, IsBelow}
 use Rattle.asm_macro.proofs.RefusalLemmas.{holds_either}
 use Rattle.asm_macro.proofs.BuildLemmas.{greatest_append}
+use Rattle.asm_macro.proofs.NumberLemmas.{with_number, numbered_with, numbered_is}
 use Rattle.asm_macro.proofs.FormFiles.{GoodNumbers}
 use Rattle.asm_macro.proofs.FormBuilds.{IsGoodFile, GoodResults, ResultsOrRefusal, expansion_good}
 
@@ -49,11 +51,13 @@ unfolding with_name GoodNumbers Below
 put_number count files name number all here = λ other.
     holds_either (Below count) (bytes_eq name other) (Some number) (files other) (λ found is. let same : number ≡ found = cc in rw (← same) here) (all other)
 
-numbered_below : (count number : ℕ) (files : Names ℕ) (names : List (List ℕ)) → GoodNumbers (IsBelow count) files → number + length names ≤ count → GoodNumbers (IsBelow count) (numbered number files names)
-unfolding numbered
-numbered_below count number files [] all within = all
-numbered_below count number files (name ∷ names) all within =
-    numbered_below count (number + 1) (with_name files name (Some number)) names (put_number count files name number all (omega (arith, within))) (omega (arith, within))
+numbered_with_below : (count number : ℕ) (files : Names ℕ) (names : List (List ℕ)) → GoodNumbers (IsBelow count) files → number + length names ≤ count → GoodNumbers (IsBelow count) (numbered_with number files names)
+unfolding numbered_with
+numbered_with_below count number files [] all within = all
+numbered_with_below count number files (name ∷ names) all within =
+    numbered_with_below count (number + 1) (with_number files name number) names
+    (holds_either (GoodNumbers (IsBelow count)) (is_some (files name)) files (with_name files name (Some number)) all
+    (put_number count files name number all (omega (arith, within)))) (omega (arith, within))
 
 no_numbers : (P : ℕ → Type 0) → GoodNumbers P nothing
 unfolding GoodNumbers
@@ -70,8 +74,9 @@ file_below count most tokens below form there within = record {
 below_all : (sources : List Tokens) (includes defines : List (List ℕ × Tokens))
     → GoodNumbers (IsBelow (file_count sources includes defines)) (context_for sources includes defines).files
 below_all sources includes defines =
-    numbered_below (file_count sources includes defines) (greatest_file sources includes defines + 1) nothing (line_names_of sources includes)
-    (no_numbers (IsBelow (file_count sources includes defines))) (omega arith)
+    subst (GoodNumbers (IsBelow (file_count sources includes defines))) (numbered_is (greatest_file sources includes defines + 1) (line_names_of sources includes))
+    (numbered_with_below (file_count sources includes defines) (greatest_file sources includes defines + 1) nothing (line_names_of sources includes)
+    (no_numbers (IsBelow (file_count sources includes defines))) (omega arith))
 
 pub placed_results : (limits : Limits) (sources : List Tokens) (includes defines : List (List ℕ × Tokens))
     → All AreTokens sources → All (λ include. AreTokens include.1) includes → All (λ define. AreTokens define.1) defines → ArePlaced sources includes defines

@@ -6,7 +6,7 @@ use Rattle.asm_macro.specs.declared.cause.Cause.{Cause}
 use Rattle.asm_macro.specs.declared.cause.Cause.TheVariants.{TooMany}
 use Rattle.asm_macro.specs.Refusals.{lower, refusal}
 use Rattle.asm_macro.specs.Definitions.{Definition, Definitions}
-use Rattle.asm_macro.specs.Uses.{Work, Read, Ended, Full, Met, front, use_of, passed, ended, with_uses, run}
+use Rattle.asm_macro.specs.Uses.{Work, Read, Ended, Full, Met, front, use_of, limit_cause, ended, with_uses, run}
 
 pub run_ended : (uses : ℕ) (definitions : Definitions) (pos : Pos) (found : Option Cause) (pending : List Placed) (work next : Work)
     → front definitions pending work ≡ Ended next → run uses definitions pos found pending work ≡ ended pos found next
@@ -22,7 +22,7 @@ run_full (suc uses) definitions pos found pending work is = rw (is, run) refl
 
 pub run_passed : (uses : ℕ) (definitions : Definitions) (pos : Pos) (found : Option Cause) (pending rest : List Placed) (work next : Work) (name : Placed) (definition : Definition)
     → uses ≡ 0 → front definitions pending work ≡ Met name definition rest next
-    → run uses definitions pos found pending work ≡ Err (refusal (lower found (passed definition name rest)) pos)
+    → run uses definitions pos found pending work ≡ Err (refusal (lower found (limit_cause definition name rest)) pos)
 unfolding run
 run_passed zero definitions pos found pending rest work next name definition none is = rw (is, run) refl
 run_passed (suc uses) definitions pos found pending rest work next name definition none is = absurd (omega arith)

@@ -1,11 +1,13 @@
 -- The arguments of a use: what stands between the commas of the brackets behind its name. A comma inside further
 -- brackets separates nothing, and no list goes past the end of a statement.
-use Rattle.std.specs.Prelude.{ℕ, Bool, true, false, List, [], ◌∷◌, ◌++◌, ◌+◌, ◌-◌, ◌==◌, ◌&&◌, ◌||◌, length, Option, Some, None, if◌then◌else◌}
+use Rattle.std.specs.Prelude.{ℕ, Bool, true, false, List, [], ◌∷◌, ◌+◌, ◌-◌, ◌==◌, ◌&&◌, ◌||◌, length, Option, Some, None, if◌then◌else◌}
+use Rattle.std.specs.List.{onto_first}
+use Rattle.std.specs.Option.{option_map}
 use Rattle.asm_macro.specs.declared.placed.Placed.{Placed}
 use Rattle.asm_macro.specs.declared.arguments.Part.{Part}
 use Rattle.asm_macro.specs.declared.arguments.Part.TheVariants.{End, Close, Comma, Inside}
-use Rattle.asm_macro.specs.Tokens.{is_end, is_sign, opening, closing, comma}
-use Rattle.asm_macro.specs.Definitions.{Parameters}
+use Rattle.asm_directive.specs.Tokens.{is_end, is_sign, opening, closing, comma}
+use Rattle.asm_directive.specs.Directives.{Parameters}
 
 pub record Arguments : Type 0 where
   pub lists : List (List Placed)
@@ -24,21 +26,30 @@ part_of nest placed =
     else (if nest == 0 && is_sign comma placed.token then Comma
     else Inside nest)))
 
--- the arguments, with those that were read and the front of the next, inside this many further brackets
-unfoldable pub arguments_from : ℕ → List (List Placed) → List Placed → List Placed → Option Arguments
-arguments_from nest lists list [] = None
-arguments_from nest lists list (placed ∷ rest) =
+-- an empty argument before the others
+abbrev pub with_empty : Arguments → Arguments
+with_empty arguments = record { lists = [] ∷ arguments.lists; levels = arguments.levels; rest = arguments.rest }
+
+-- a token before those of the first argument
+abbrev pub with_front : Placed → Arguments → Arguments
+with_front placed arguments =
+    record { lists = onto_first placed arguments.lists; levels = arguments.levels; rest = arguments.rest }
+
+-- the parts between commas, up to the bracket that closes the list, inside this many further brackets
+unfoldable pub arguments_from : ℕ → List Placed → Option Arguments
+arguments_from nest [] = None
+arguments_from nest (placed ∷ rest) =
     elim (part_of nest placed) [
       | End ↦ None
-      | Close ↦ Some (record { lists = lists ++ list ∷ []; levels = placed.levels; rest = rest })
-      | Comma ↦ arguments_from nest (lists ++ list ∷ []) [] rest
-      | Inside deeper ↦ arguments_from deeper lists (list ++ placed ∷ []) rest
+      | Close ↦ Some (record { lists = [] ∷ []; levels = placed.levels; rest = rest })
+      | Comma ↦ option_map with_empty (arguments_from nest rest)
+      | Inside deeper ↦ option_map (with_front placed) (arguments_from deeper rest)
     ]
 
 -- those behind a name; `None` where no list stands there, or one that is open
 unfoldable pub arguments_behind : List Placed → Option Arguments
 arguments_behind [] = None
-arguments_behind (placed ∷ rest) = if is_sign opening placed.token then arguments_from 0 [] [] rest else None
+arguments_behind (placed ∷ rest) = if is_sign opening placed.token then arguments_from 0 rest else None
 
 -- what a use of a macro takes: a macro without parameters takes nothing
 abbrev pub taken_by : Option Parameters → Placed → List Placed → Option Arguments

@@ -1,30 +1,17 @@
 -- A build: the macros that it defines before all sources, its files, and what comes of it.
-use Rattle.std.specs.Prelude.{ℕ, List, [], ◌∷◌, ◌++◌, ◌+◌, ◌-◌, map, max, length, take, Some, None, is_some, Result, Ok, Err, if◌then◌else◌}
-use Rattle.std.specs.List.{flat_map, sum_by}
+use Rattle.std.specs.Prelude.{ℕ, List, [], ◌∷◌, ◌++◌, ◌+◌, ◌-◌, map, max, length, take, bytes_eq, Some, None, is_some, Result, Ok, Err, if◌then◌else◌}
+use Rattle.std.specs.List.{position_from}
 use Rattle.goasm_base.specs.declared.pos.Pos.{Pos}
 use Rattle.asm_lex.specs.declared.token.Token.{Token}
 use Rattle.asm_lex.specs.declared.token.Tokens.{Tokens}
 use Rattle.asm_macro.specs.declared.refusal.MacroNo.{MacroNo}
 use Rattle.asm_macro.specs.declared.refusal.MacroNo.TheVariants.{M6}
 use Rattle.asm_macro.specs.declared.limits.Limits.{Limits}
-use Rattle.asm_macro.specs.Names.{Names, nothing, with_name}
+use Rattle.asm_directive.specs.Names.{Names, nothing, with_name}
 use Rattle.asm_macro.specs.Definitions.{Definition, Definitions}
 use Rattle.asm_macro.specs.Refusals.{◌>>=◌}
 use Rattle.asm_macro.specs.Files.{Context, State, read_file}
-use Rattle.asm_macro.specs.LineNames.{names_in, distinct_behind}
-
--- the tokens of several files
-abbrev pub token_count : List Tokens → ℕ
-token_count all = sum_by (λ tokens. length tokens.list) all
-
--- the files that sources may include, without their names
-abbrev pub included_tokens : List (List ℕ × Tokens) → List Tokens
-included_tokens includes = map (λ include. include.1) includes
-
--- the distinct names in `#line` directives, of sources first and of includes after them
-unfoldable pub line_names_of : List Tokens → List (List ℕ × Tokens) → List (List ℕ)
-line_names_of sources includes =
-    distinct_behind [] (flat_map (λ tokens. names_in tokens.list) (sources ++ included_tokens includes))
+use Rattle.asm_directive.specs.LineNames.{line_names_of}
 
 -- the greatest number of a file, and of those before it
 abbrev pub greatest : ℕ → List ℕ → ℕ
@@ -36,9 +23,8 @@ greatest_file sources includes defines =
     greatest 0 (map (λ tokens. tokens.file) sources ++ (map (λ include. include.1.file) includes ++ map (λ define. define.1.file) defines))
 
 -- names get numbers that count on from this one
-unfoldable pub numbered : ℕ → Names ℕ → List (List ℕ) → Names ℕ
-numbered number files [] = files
-numbered number files (name ∷ names) = numbered (number + 1) (with_name files name (Some number)) names
+unfoldable pub numbered : ℕ → List (List ℕ) → Names ℕ
+numbered number names name = position_from (λ other. bytes_eq other name) number names
 
 -- of several files of one name the first counts
 unfoldable pub included : Names (List Token) → List (List ℕ × Tokens) → Names (List Token)
@@ -62,21 +48,21 @@ defined definitions (define ∷ defines) =
     if is_some (definitions define.0) then Err (M6 (first_pos define.1.file define.1.list))
     else defined (with_name definitions define.0 (Some (value_definition define.1))) defines
 
-abbrev pub started : Definitions → ℕ → ℕ → State
-started definitions room uses = record { definitions = definitions; work = record { out = []; room = room; uses = uses } }
+abbrev pub start_state : Definitions → ℕ → ℕ → State
+start_state definitions room uses = record { definitions = definitions; work = record { out = []; room = room; uses = uses } }
 
 -- the sources one after the other, each with the macros that the build defines, where so many tokens and uses are left
 unfoldable pub expand_sources : ℕ → Context → Definitions → ℕ → ℕ → List Tokens → Result (List Tokens) MacroNo
 expand_sources nesting context definitions room uses [] = Ok []
 expand_sources nesting context definitions room uses (tokens ∷ sources) = do
-  state ← read_file nesting context tokens.list (started definitions room uses)
+  state ← read_file nesting context tokens.list (start_state definitions room uses)
   others ← expand_sources nesting context definitions state.work.room state.work.uses sources
   Ok (record { file = tokens.file; list = state.work.out } ∷ others)
 
 abbrev pub context_for : List Tokens → List (List ℕ × Tokens) → List (List ℕ × Tokens) → Context
 context_for sources includes defines = record {
   includes = included nothing includes;
-  files = numbered (greatest_file sources includes defines + 1) nothing (line_names_of sources includes);
+  files = numbered (greatest_file sources includes defines + 1) (line_names_of sources includes);
 }
 
 -- what comes of a build under these limits: the tokens of each source, or the first refusal

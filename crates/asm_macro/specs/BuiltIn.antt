@@ -8,7 +8,7 @@ use Rattle.asm_macro.specs.declared.refusal.MacroNo.TheVariants.{M6}
 use Rattle.asm_macro.specs.declared.built_in.BuiltIn.{BuiltIn}
 use Rattle.asm_macro.specs.declared.built_in.BuiltIn.TheVariants.{Textflag, Funcdata}
 use Rattle.asm_macro.specs.declared.built_in.Row.{Row}
-use Rattle.asm_macro.specs.Names.{with_name}
+use Rattle.asm_directive.specs.Names.{with_name}
 use Rattle.asm_macro.specs.Definitions.{Definition, Definitions}
 
 unfoldable pub built_in_named : List ℕ → Option BuiltIn

@@ -1,14 +1,10 @@
 -- Macros.
-use Rattle.std.specs.Prelude.{ℕ, List, Option, None, if◌then◌else◌}
+use Rattle.std.specs.Prelude.{List, Option, None, if◌then◌else◌}
 use Rattle.asm_lex.specs.declared.token.Token.{Token}
 use Rattle.asm_macro.specs.declared.built_in.BuiltIn.{BuiltIn}
-use Rattle.asm_macro.specs.Names.{Names}
-use Rattle.asm_macro.specs.Tokens.{is_word}
-
--- the parameters of a macro: how many there are, and which of them a name is, counted from 0
-pub record Parameters : Type 0 where
-  pub count : ℕ
-  pub place : Names ℕ
+use Rattle.asm_directive.specs.Names.{Names}
+use Rattle.asm_directive.specs.Tokens.{is_word}
+use Rattle.asm_directive.specs.Directives.{Parameters, Named}
 
 pub record Definition : Type 0 where
   -- of a macro that takes arguments
@@ -16,6 +12,10 @@ pub record Definition : Type 0 where
   pub body : List Token
   -- the built-in file that defines it, where one does
   pub origin : Option BuiltIn
+
+-- the macro that a `#define` makes
+abbrev pub definition_by : Named → Definition
+definition_by named = record { parameters = named.parameters; body = named.body; origin = None }
 
 -- the macros in force, by name
 abbrev pub Definitions : Type 0

@@ -6,20 +6,20 @@ use Rattle.asm_lex.specs.declared.token.Token.{Token}
 use Rattle.asm_macro.specs.declared.placed.Placed.{Placed}
 use Rattle.asm_macro.specs.declared.refusal.MacroNo.{MacroNo}
 use Rattle.asm_macro.specs.declared.refusal.MacroNo.TheVariants.{M1, M4, M5, M6, M7}
-use Rattle.asm_macro.specs.declared.keyword.Keyword.{Keyword}
-use Rattle.asm_macro.specs.declared.keyword.Keyword.TheVariants as keywords
+use Rattle.asm_directive.specs.declared.keyword.Keyword.{Keyword}
+use Rattle.asm_directive.specs.declared.keyword.Keyword.TheVariants as keywords
 use Rattle.asm_macro.specs.declared.built_in.BuiltIn.{BuiltIn}
 use Rattle.asm_macro.specs.declared.mapping.Mapping.{Mapping}
 use Rattle.asm_macro.specs.declared.condition.Condition.{Condition}
-use Rattle.asm_macro.specs.Names.{Names, with_name}
-use Rattle.asm_macro.specs.Tokens.{is_newline}
-use Rattle.asm_macro.specs.Definitions.{Definitions}
+use Rattle.asm_directive.specs.Names.{Names, with_name}
+use Rattle.asm_directive.specs.Tokens.{is_newline}
+use Rattle.asm_macro.specs.Definitions.{Definitions, definition_by}
 use Rattle.asm_macro.specs.Refusals.{◌>>=◌}
 use Rattle.asm_macro.specs.Uses.{Work, placed_at, expand_statement, with_uses}
-use Rattle.asm_macro.specs.Statements.{Statement, statements_of}
-use Rattle.asm_macro.specs.Directives.{keyword_of, name_in, quoted_in, LineMark, mark_in, Named, definition_in}
-use Rattle.asm_macro.specs.Conditions.{is_taken, judged, skipped, conditions_after_else, conditions_after_endif}
-use Rattle.asm_macro.specs.Positions.{moved, mapping_from}
+use Rattle.asm_directive.specs.Statements.{Statement, statements_of, rest_of}
+use Rattle.asm_directive.specs.Directives.{keyword_of, name_in, quoted_in, LineMark, mark_in, Named, definition_in}
+use Rattle.asm_macro.specs.Conditions.{is_taken, counted_condition, uncounted_condition, conditions_after_else, conditions_after_endif}
+use Rattle.asm_macro.specs.Positions.{mapped_pos, mapping_from}
 use Rattle.asm_macro.specs.BuiltIn.{built_in_named, rows_of, with_rows}
 
 -- what stays the same through a build
@@ -61,7 +61,7 @@ unfoldable pub define : Pos → Option Named → State → Result State MacroNo
 define pos None state = Err (M5 pos)
 define pos (Some named) state =
     if is_some (state.definitions named.name) then Err (M6 pos)
-    else Ok (with_definitions state (with_name state.definitions named.name (Some named.definition)))
+    else Ok (with_definitions state (with_name state.definitions named.name (Some (definition_by named))))
 
 -- `#undef`: the name may be undefined already
 unfoldable pub undefine : Pos → Option (List ℕ) → State → Result State MacroNo
@@ -104,7 +104,7 @@ include context levels pos (Some name) state = include_named levels pos name sta
 unfoldable pub open_condition : Bool → Pos → Option (List ℕ) → Definitions → Place → Result Place MacroNo
 open_condition wanted pos None definitions place = Err (M5 pos)
 open_condition wanted pos (Some name) definitions place =
-    Ok (with_conditions place (judged pos (if wanted then is_some (definitions name) else not (is_some (definitions name))) ∷ place.conditions))
+    Ok (with_conditions place (counted_condition pos (if wanted then is_some (definitions name) else not (is_some (definitions name))) ∷ place.conditions))
 
 -- the place with the conditions that are open behind a `#else` or an `#endif`, where one may stand there
 abbrev pub balanced_place : Pos → Place → Option (List Condition) → Result Place MacroNo
@@ -156,16 +156,12 @@ unfoldable pub skip : Pos → List Token → Place → Keyword → Result Place 
 skip pos words place keywords.Define = Ok place
 skip pos words place keywords.Undef = Ok place
 skip pos words place keywords.Include = Ok place
-skip pos words place keywords.Ifdef = Ok (with_conditions place (skipped pos ∷ place.conditions))
-skip pos words place keywords.Ifndef = Ok (with_conditions place (skipped pos ∷ place.conditions))
+skip pos words place keywords.Ifdef = Ok (with_conditions place (uncounted_condition pos ∷ place.conditions))
+skip pos words place keywords.Ifndef = Ok (with_conditions place (uncounted_condition pos ∷ place.conditions))
 skip pos words place keywords.Else = balanced_place pos place (conditions_after_else (is_empty words) place.conditions)
 skip pos words place keywords.Endif = balanced_place pos place (conditions_after_endif (is_empty words) place.conditions)
 skip pos words place keywords.Line = Ok place
 skip pos words place keywords.Other = Ok place
-
-abbrev pub rest_of : List Token → List Token
-rest_of [] = []
-rest_of (token ∷ tokens) = tokens
 
 -- a directive, by its first word and those behind it
 unfoldable pub read_directive : Context → ℕ → Pos → ℕ → List Token → Place → State → Keyword → Result Step MacroNo
@@ -175,7 +171,7 @@ read_directive context levels pos line words place state keyword =
 
 -- a statement's tokens, each with its position
 abbrev pub placed_in : Option Mapping → ℕ → List Token → List Placed
-placed_in mapping levels tokens = map (λ token. placed_at (moved mapping token.pos) levels token) tokens
+placed_in mapping levels tokens = map (λ token. placed_at (mapped_pos mapping token.pos) levels token) tokens
 
 unfoldable pub read_plain : ℕ → Pos → List Token → Place → State → Result Step MacroNo
 read_plain levels pos tokens place state =
@@ -192,9 +188,9 @@ unfoldable pub read_statement : Context → ℕ → Bool → List Token → Plac
 read_statement context levels is_directive [] place state = step_at place state
 read_statement context levels true (first ∷ tokens) place state =
     let words = before_first is_newline tokens in
-    read_directive context levels (moved place.mapping first.pos) (end_line first (first ∷ tokens)) (rest_of words) place state (keyword_of words)
+    read_directive context levels (mapped_pos place.mapping first.pos) (end_line first (first ∷ tokens)) (rest_of words) place state (keyword_of words)
 read_statement context levels false (first ∷ tokens) place state =
-    read_plain levels (moved place.mapping first.pos) (first ∷ tokens) place state
+    read_plain levels (mapped_pos place.mapping first.pos) (first ∷ tokens) place state
 
 -- a file ends with no condition open
 abbrev pub end_file : List Condition → State → Result State MacroNo

@@ -2,7 +2,7 @@
 use Rattle.std.specs.Prelude.{◌≡◌, ℕ, List, [], ◌∷◌, ◌+◌, ◌-◌, map, if◌then◌else◌}
 use Rattle.asm_macro.specs.declared.placed.Placed.{Placed}
 use Rattle.asm_macro.specs.declared.pending.Entry.{Entry}
-use Rattle.asm_macro.specs.Tokens.{is_end, is_sign, opening, closing}
+use Rattle.asm_directive.specs.Tokens.{is_end, is_sign, opening, closing}
 
 abbrev pub tokens_in : List Entry → List Placed
 tokens_in entries = map (λ entry. entry.placed) entries

@@ -3,7 +3,8 @@ use Rattle.std.specs.Prelude.{◌≡◌, ℕ, ◌+◌, ◌<◌, List, length, Al
 use Rattle.asm_lex.specs.declared.token.Tokens.{Tokens}
 use Rattle.asm_macro.specs.declared.refusal.MacroNo.{MacroNo}
 use Rattle.asm_macro.specs.declared.refusal.MacroNo.TheVariants.{M1, M2, M3, M4, M5, M6, M7, Memory}
-use Rattle.asm_macro.specs.Builds.{line_names_of, greatest_file}
+use Rattle.asm_directive.specs.LineNames.{line_names_of}
+use Rattle.asm_macro.specs.Builds.{greatest_file}
 
 -- how many files a build has, with those that `#line` names: the number of each is below this one
 abbrev pub file_count : List Tokens → List (List ℕ × Tokens) → List (List ℕ × Tokens) → ℕ

@@ -5,9 +5,9 @@ use Rattle.goasm_base.specs.Lines.{last_line}
 use Rattle.asm_macro.specs.declared.mapping.Mapping.{Mapping}
 
 -- the line behind the directive has its number, and those behind it count on
-unfoldable pub moved : Option Mapping → Pos → Pos
-moved None pos = pos
-moved (Some mapping) pos =
+unfoldable pub mapped_pos : Option Mapping → Pos → Pos
+mapped_pos None pos = pos
+mapped_pos (Some mapping) pos =
     record { file = mapping.file; line = min (mapping.number + (pos.line - mapping.line - 1)) last_line }
 
 -- the mapping that a directive makes which ends on this line

@@ -8,8 +8,9 @@ use Rattle.asm_macro.specs.declared.refusal.MacroNo.{MacroNo}
 use Rattle.asm_macro.specs.declared.cause.Cause.{Cause}
 use Rattle.asm_macro.specs.declared.cause.Cause.TheVariants.{ArgumentCount, MissingArguments, Nesting, TooMany}
 use Rattle.asm_macro.specs.Refusals.{lower, refusal}
-use Rattle.asm_macro.specs.Tokens.{is_word}
-use Rattle.asm_macro.specs.Definitions.{Parameters, Definition, Definitions, in_force}
+use Rattle.asm_directive.specs.Tokens.{is_word}
+use Rattle.asm_directive.specs.Directives.{Parameters}
+use Rattle.asm_macro.specs.Definitions.{Definition, Definitions, in_force}
 use Rattle.asm_macro.specs.Arguments.{Arguments, taken_by, fit}
 
 -- what is made, and what may still be
@@ -31,50 +32,50 @@ parameter_in None token = None
 parameter_in (Some parameters) token = if is_word token then parameters.place token.text else None
 
 -- what stands for a token of a body: an argument's tokens for the name of a parameter
-abbrev pub standing : Pos → ℕ → List (List Placed) → Token → Option ℕ → List Placed
-standing pos levels lists token None = placed_at pos levels token ∷ []
-standing pos levels lists token (Some place) = map (λ placed. placed_at pos levels placed.token) (slice_index_or lists place [])
+abbrev pub tokens_for : Pos → ℕ → List (List Placed) → Token → Option ℕ → List Placed
+tokens_for pos levels lists token None = placed_at pos levels token ∷ []
+tokens_for pos levels lists token (Some place) = map (λ placed. placed_at pos levels placed.token) (slice_index_or lists place [])
 
 -- a body with its arguments put in
-unfoldable pub filled : Pos → ℕ → Option Parameters → List (List Placed) → List Token → List Placed
-filled pos levels parameters lists [] = []
-filled pos levels parameters lists (token ∷ body) =
-    standing pos levels lists token (parameter_in parameters token) ++ filled pos levels parameters lists body
+unfoldable pub substitution : Pos → ℕ → Option Parameters → List (List Placed) → List Token → List Placed
+substitution pos levels parameters lists [] = []
+substitution pos levels parameters lists (token ∷ body) =
+    tokens_for pos levels lists token (parameter_in parameters token) ++ substitution pos levels parameters lists body
 
 -- what is to be read behind a use, and the lowest cause that was found
 pub record Read : Type 0 where
   pub pending : List Placed
   pub found : Option Cause
 
-abbrev pub noted : Option Cause → Cause → List Placed → Read
-noted found cause pending = record { pending = pending; found = Some (lower found cause) }
+abbrev pub with_cause : Option Cause → Cause → List Placed → Read
+with_cause found cause pending = record { pending = pending; found = Some (lower found cause) }
 
 -- without its arguments a use stands for nothing, and reading goes on behind its name; with too many or too few, or
 -- where no level is left, reading goes on behind the arguments
 abbrev pub use_with : Option Cause → Definition → Placed → List Placed → Option Arguments → Read
-use_with found definition name rest None = noted found MissingArguments rest
+use_with found definition name rest None = with_cause found MissingArguments rest
 use_with found definition name rest (Some arguments) =
     if fit definition.parameters arguments.lists
-    then (if arguments.levels == 0 then noted found Nesting arguments.rest
+    then (if arguments.levels == 0 then with_cause found Nesting arguments.rest
     else record {
-      pending = filled name.token.pos (arguments.levels - 1) definition.parameters arguments.lists definition.body ++ arguments.rest;
+      pending = substitution name.token.pos (arguments.levels - 1) definition.parameters arguments.lists definition.body ++ arguments.rest;
       found = found;
     })
-    else noted found ArgumentCount arguments.rest
+    else with_cause found ArgumentCount arguments.rest
 
 unfoldable pub use_of : Option Cause → Definition → Placed → List Placed → Read
 use_of found definition name rest = use_with found definition name rest (taken_by definition.parameters name rest)
 
 -- the cause at the use that passes the limit, of which only the nesting is judged
-abbrev pub passed_at : ℕ → Cause
-passed_at levels = if levels == 0 then Nesting else TooMany
+abbrev pub limit_cause_at : ℕ → Cause
+limit_cause_at levels = if levels == 0 then Nesting else TooMany
 
-abbrev pub passed_with : Placed → Option Arguments → Cause
-passed_with name None = passed_at name.levels
-passed_with name (Some arguments) = passed_at arguments.levels
+abbrev pub limit_cause_with : Placed → Option Arguments → Cause
+limit_cause_with name None = limit_cause_at name.levels
+limit_cause_with name (Some arguments) = limit_cause_at arguments.levels
 
-unfoldable pub passed : Definition → Placed → List Placed → Cause
-passed definition name rest = passed_with name (taken_by definition.parameters name rest)
+unfoldable pub limit_cause : Definition → Placed → List Placed → Cause
+limit_cause definition name rest = limit_cause_with name (taken_by definition.parameters name rest)
 
 -- up to a use: the tokens before it are put out
 pub data Front : Type 0 where
@@ -113,7 +114,7 @@ run zero definitions pos found pending work =
     elim (front definitions pending work) [
       | Ended next ↦ ended pos found next
       | Full ↦ Err (refusal (lower found TooMany) pos)
-      | Met name definition rest next ↦ Err (refusal (lower found (passed definition name rest)) pos)
+      | Met name definition rest next ↦ Err (refusal (lower found (limit_cause definition name rest)) pos)
     ]
 run (suc left) definitions pos found pending work =
     elim (front definitions pending work) [

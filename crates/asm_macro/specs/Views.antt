@@ -2,47 +2,28 @@
 use Rattle.std.specs.Prelude.{◌≡◌, ℕ, List, Option, Some, None}
 use Rattle.std.specs.Option.{option_map}
 use Rattle.std.specs.Borrow.{Bor}
-use Rattle.std.specs.Ordering.{nat_cmp}
-use Rattle.std.specs.Cmp.Lexicographic.{slice_cmp}
-use Rattle.std.specs.BTreeMap.{get_by}
 use Rattle.asm_lex.specs.declared.token.Token.{Token}
 use Rattle.asm_macro.specs.declared.placed.Placed.{Placed}
-use Rattle.asm_macro.specs.declared.names.NameMap.{NameMap}
 use Rattle.asm_macro.specs.declared.macros.Macro.{Macro}
 use Rattle.asm_macro.specs.declared.macros.Macros.{Macros}
-use Rattle.asm_macro.specs.declared.macros.ParameterMap.{ParameterMap}
 use Rattle.asm_macro.specs.declared.arguments.Arguments as declared_arguments
 use Rattle.asm_macro.specs.declared.work.Produced.{Produced}
 use Rattle.asm_macro.specs.declared.work.Met as declared_met
-use Rattle.asm_macro.specs.declared.statements.Statement as declared_statement
 use Rattle.asm_macro.specs.declared.files.Position.{Position}
 use Rattle.asm_macro.specs.declared.files.Environment.{Environment}
 use Rattle.asm_macro.specs.declared.files.Progress.{Progress}
-use Rattle.asm_macro.specs.declared.define.Mark.{Mark}
-use Rattle.asm_macro.specs.declared.define.Opening.{Opening}
-use Rattle.asm_macro.specs.declared.define.NamedMacro.{NamedMacro}
 use Rattle.asm_macro.specs.declared.built_in.BuiltIn.{BuiltIn}
 use Rattle.asm_macro.specs.declared.built_in.BuiltIn.TheVariants.{Textflag, Funcdata}
 use Rattle.asm_macro.specs.declared.built_in.Row.{Row}
 use Rattle.asm_macro.specs.declared.built_in.Rows.{Rows}
-use Rattle.asm_macro.specs.Names.{Names}
-use Rattle.asm_macro.specs.Definitions.{Parameters, Definition, Definitions}
+use Rattle.asm_directive.specs.declared.names.NameMap.{NameMap}
+use Rattle.asm_directive.specs.Names.{Names}
+use Rattle.asm_directive.specs.Views.{names_of, parameters_if}
+use Rattle.asm_macro.specs.Definitions.{Definition, Definitions}
 use Rattle.asm_macro.specs.Arguments.{Arguments}
 use Rattle.asm_macro.specs.Uses.{Work, Front, Ended, Met}
-use Rattle.asm_macro.specs.Statements.{Statement}
-use Rattle.asm_macro.specs.Directives.{LineMark, Head, Named}
 use Rattle.asm_macro.specs.BuiltIn.{textflag, funcdata}
 use Rattle.asm_macro.specs.Files.{Context, State, Place}
-
--- what names stand for
-unfoldable pub names_of : {T : Type 0} → NameMap T → Names T
-names_of map name = get_by (λ key. slice_cmp nat_cmp name key.now) map.map
-
-abbrev pub parameters_of : ParameterMap → Parameters
-parameters_of parameters = record { count = parameters.count; place = names_of parameters.places }
-
-abbrev pub parameters_if : Option ParameterMap → Option Parameters
-parameters_if parameters = option_map parameters_of parameters
 
 abbrev pub definition_of : Macro → Definition
 definition_of macro = record { parameters = parameters_if macro.parameters; body = macro.body.now; origin = macro.origin }
@@ -72,21 +53,6 @@ work_of produced = record { out = produced.out.items; room = produced.room; uses
 abbrev pub front_of : Option declared_met.Met → List Placed → Work → Front
 front_of None pending work = Ended work
 front_of (Some met) pending work = Met met.name (definition_of met.definition.now) pending work
-
-abbrev pub statement_of : declared_statement.Statement → Statement
-statement_of statement = record { directive = statement.directive; tokens = statement.tokens.now }
-
-abbrev pub name_of : Option (Bor (List ℕ)) → Option (List ℕ)
-name_of name = option_map (λ bytes. bytes.now) name
-
-abbrev pub line_mark_of : Option Mark → Option LineMark
-line_mark_of mark = option_map (λ said. record { number = said.number; name = said.name }) mark
-
-abbrev pub head_of : Option Opening → Option Head
-head_of opening = option_map (λ said. record { parameters = parameters_of said.parameters; body = said.body.now }) opening
-
-abbrev pub named_of : Option NamedMacro → Option Named
-named_of named = option_map (λ said. record { name = said.name.now; definition = definition_of said.definition }) named
 
 abbrev pub rows_in : Rows → BuiltIn → List Row
 rows_in rows Textflag = rows.textflag.items

@@ -1,12 +1,12 @@
-ghost use Rattle.std.specs.Prelude.{◌≡◌, [], IfOk, IsSome, None, Some};
+ghost use Rattle.std.specs.Prelude.{◌≡◌, IfOk, IsSome, None, Some};
 ghost use Rattle.asm_macro.specs.Arguments as spec;
 ghost use Rattle.asm_macro.specs.Arguments.{arguments_from, arguments_behind, taken_by, fit};
-ghost use Rattle.asm_macro.specs.Views.{parameters_if, arguments_of, taken_as};
+ghost use Rattle.asm_directive.specs.Views.{parameters_if};
+ghost use Rattle.asm_macro.specs.Views.{arguments_of, taken_as};
 
-use crate::macros::ParameterMap;
 use crate::pending::Pending;
 use crate::placed::Placed;
-use crate::tokens::{is_end, is_sign};
+use asm_directive::{ParameterMap, is_end, is_sign};
 use goasm_base::{List, Memory};
 use std::alloc::Global;
 use std::mem::replace;
@@ -81,11 +81,10 @@ fn part_of(nest: usize, placed: &Placed) -> Result<Part, Memory>
 }
 
 // The lists up to the closing bracket.
-#[tactic(auto, unfolding(crate::specs::Arguments::arguments_from))]
+#[tactic(auto, unfolding(crate::proofs::ArgumentLemmas::arguments_with), using(crate::proofs::ArgumentLemmas::from_is))]
 fn read_lists(alloc: Global, pending: &mut Pending) -> Result<Arguments, Memory>
-    requires { IsSome (arguments_from 0 [] [] pending.old) }
-    ensures { IfOk result
-        (λ read. arguments_from 0 [] [] pending.old ≡ Some (arguments_of read pending.new)) }
+    requires { IsSome (arguments_from 0 pending.old) }
+    ensures { IfOk result (λ read. arguments_from 0 pending.old ≡ Some (arguments_of read pending.new)) }
 {
     let mut lists = Vec::new(alloc);
     let mut list = Vec::new(alloc);

@@ -1,20 +1,21 @@
 ghost use Rattle.std.specs.Prelude.{◌≡◌, ◌<◌, ◌≤◌, ◌+◌, ◌^◌, length, map, All, IfOk, IfErr, Ok};
 ghost use Rattle.asm_lex.specs.Form.{AreTokens};
 ghost use Rattle.asm_macro.specs.Refusals.{IsFault, Refuses};
-ghost use Rattle.asm_macro.specs.Names.{nothing};
+ghost use Rattle.asm_directive.specs.Names.{nothing};
 ghost use Rattle.asm_macro.specs.Builds as spec;
-ghost use Rattle.asm_macro.specs.Builds.{line_names_of, greatest_file, token_count, outcome_of, Done, Refused};
+ghost use Rattle.asm_directive.specs.LineNames.{line_names_of, token_count};
+ghost use Rattle.asm_macro.specs.Builds.{greatest_file, outcome_of, Done, Refused};
 ghost use Rattle.asm_macro.specs.Places.{ArePlaced, StandIn, RefusedIn, IsBelow, file_count};
-ghost use Rattle.asm_macro.specs.Views.{names_of, definition_of, macros_in, files_in, context_of, AreBuiltIn};
+ghost use Rattle.asm_directive.specs.Views.{names_of};
+ghost use Rattle.asm_macro.specs.Views.{definition_of, macros_in, files_in, context_of, AreBuiltIn};
 
 use crate::built_in::Rows;
 use crate::files::{Environment, Progress, read_file};
 use crate::limits::Limits;
 use crate::macros::{Macro, Macros};
-use crate::marks::line_names;
-use crate::names::NameMap;
 use crate::refusal::MacroNo;
 use crate::work::Produced;
+use asm_directive::{NameMap, line_names};
 use asm_lex::{Token, Tokens};
 use goasm_base::{List, Memory, Name, Pos};
 use std::alloc::Global;
@@ -53,7 +54,35 @@ pub fn expand(
     ensures place { ArePlaced sources.now includes.now defines.now → IfErr result
         (λ no. RefusedIn (IsBelow (file_count sources.now includes.now defines.now)) no) }
 {
-    expand_within(alloc, LIMITS, sources, includes, defines)
+    let names = line_names(alloc, sources, includes)?;
+    expand_named(alloc, sources, includes, defines, names.as_slice())
+}
+
+/// The same where the caller has the names in `#line` directives, as `line_names` gives them.
+pub fn expand_named(
+    alloc: Global,
+    sources: &[Tokens],
+    includes: &[(Name, Tokens)],
+    defines: &[(Name, Tokens)],
+    names: &[Name],
+) -> Result<Vec<Tokens>, MacroNo>
+    requires names { names.now ≡ line_names_of sources.now includes.now }
+    requires sources { All AreTokens sources.now }
+    requires includes { All (λ include. AreTokens include.1) includes.now }
+    requires defines { All (λ define. AreTokens define.1) defines.now }
+    requires files { greatest_file sources.now includes.now defines.now + length (line_names_of sources.now includes.now) < 2 ^ 32 }
+    ensures expanded { IfOk result (λ all. outcome_of sources.now includes.now defines.now ≡ Done all.items) }
+    ensures refused { IfErr result
+        (λ no. IsFault no → outcome_of sources.now includes.now defines.now ≡ Refused no) }
+    ensures form { IfOk result (λ all. All AreTokens all.items) }
+    ensures few { IfOk result (λ all. token_count all.items ≤ 4000000) }
+    ensures places { ArePlaced sources.now includes.now defines.now → IfOk result
+        (λ all. All (StandIn (IsBelow (file_count sources.now includes.now defines.now))) all.items) }
+    ensures place { ArePlaced sources.now includes.now defines.now → IfErr result
+        (λ no. RefusedIn (IsBelow (file_count sources.now includes.now defines.now)) no) }
+{
+    let rows = Rows::new(alloc)?;
+    expand_over(alloc, LIMITS, sources, includes, defines, names, &rows)
 }
 
 /// The same under other limits.
@@ -70,7 +99,7 @@ pub fn expand_within(
 {
     let names = line_names(alloc, sources, includes)?;
     let rows = Rows::new(alloc)?;
-    expand_named(
+    expand_over(
         alloc,
         limits,
         sources,
@@ -83,7 +112,7 @@ pub fn expand_within(
 
 // The same with the names in `#line` directives and the built-in files.
 #[tactic(auto, unfolding(crate::specs::Builds::expansion))]
-fn expand_named<'a>(
+fn expand_over<'a>(
     alloc: Global,
     limits: Limits,
     sources: &'a [Tokens],
@@ -209,20 +238,20 @@ fn included_files<'a>(
 }
 
 // The numbers of the files that `#line` names, which come behind the greatest other one.
-#[tactic(auto, unfolding(crate::specs::Builds::numbered))]
+#[tactic(auto, unfolding(crate::proofs::NumberLemmas::numbered_with), using(crate::proofs::NumberLemmas::numbered_is))]
 fn numbered_files<'a>(
     alloc: Global,
     greatest: u32,
     names: &'a [Name],
 ) -> Result<NameMap<'a, u32>, Memory>
     requires { greatest + length names.now < 2 ^ 32 }
-    ensures { IfOk result (λ files. names_of files ≡ spec.numbered (greatest + 1) nothing names.now) }
+    ensures { IfOk result (λ files. names_of files ≡ spec.numbered (greatest + 1) names.now) }
 {
     let mut files = NameMap::new(alloc);
     let mut number = greatest;
     for name in names {
         number += 1;
-        files.put(name.as_slice(), number)?;
+        files.put_new(name.as_slice(), number)?;
     }
     Ok(files)
 }

@@ -9,8 +9,8 @@ use std::collections::VecDeque;
 pub struct Condition {
     /// Where it begins.
     pub pos: Pos,
-    /// Whether it is judged; one in a branch that isn't taken is not.
-    pub judged: bool,
+    /// Whether it stands where statements count; one in a branch that isn't taken does not.
+    pub counts: bool,
     /// Whether the branch that is read is taken.
     pub taken: bool,
     /// Whether its `#else` has come.
@@ -37,12 +37,12 @@ pub fn go_to_else(conditions: &mut VecDeque<Condition>, alone: bool) -> Result<b
 {
     match conditions.pop_front() {
         None => Ok(false),
-        Some(condition) if condition.has_else || (condition.judged && !alone) => Ok(false),
+        Some(condition) if condition.has_else || (condition.counts && !alone) => Ok(false),
         Some(condition) => {
             conditions.push_front(Condition {
                 pos: condition.pos,
-                judged: condition.judged,
-                taken: condition.judged && !condition.taken,
+                counts: condition.counts,
+                taken: condition.counts && !condition.taken,
                 has_else: true,
             })?;
             Ok(true)
@@ -57,6 +57,6 @@ pub fn leave(conditions: &mut VecDeque<Condition>, alone: bool) -> bool
 {
     match conditions.pop_front() {
         None => false,
-        Some(condition) => !condition.judged || alone,
+        Some(condition) => !condition.counts || alone,
     }
 }

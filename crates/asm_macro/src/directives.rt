@@ -1,6 +1,6 @@
 ghost use Rattle.std.specs.Prelude.{◌≡◌, ◌==◌, ◌∷◌, false, Ok, OnOk, IfOk, IfErr};
 ghost use Rattle.asm_macro.specs.Refusals.{IsFault, Refuses};
-ghost use Rattle.asm_macro.specs.Directives as forms;
+ghost use Rattle.asm_directive.specs.Directives as forms;
 ghost use Rattle.asm_macro.specs.BuiltIn as built_in;
 ghost use Rattle.asm_macro.specs.Files as spec;
 ghost use Rattle.asm_macro.specs.Conditions as conditions;
@@ -8,12 +8,11 @@ ghost use Rattle.asm_macro.specs.Views.{definitions_of, context_of, place_of, st
 
 use crate::built_in::{built_in_named, define_rows};
 use crate::condition::{Condition, go_to_else, leave};
-use crate::define::{definition_in, mark_in, name_in, quoted_in};
 use crate::files::{Environment, Position, Progress};
-use crate::keyword::Keyword;
-use crate::macros::Macros;
+use crate::macros::{Macro, Macros};
 use crate::mapping::mapping_from;
 use crate::refusal::MacroNo;
+use asm_directive::{Keyword, definition_in, mark_in, name_in, quoted_in};
 use asm_lex::Token;
 use goasm_base::Pos;
 use std::alloc::Global;
@@ -48,7 +47,12 @@ fn define<'a>(
             if progress.macros.get(named.name).is_some() {
                 return Err(MacroNo::M6(pos));
             }
-            progress.macros.define(named.name, named.definition)?;
+            let definition = Macro {
+                parameters: named.parameters,
+                body: named.body,
+                origin: None,
+            };
+            progress.macros.define(named.name, definition)?;
             Ok(())
         }
     }
@@ -174,18 +178,18 @@ fn open_condition(
 fn push_condition(
     position: &mut Position,
     pos: Pos,
-    judged: bool,
+    counts: bool,
     taken: bool,
 ) -> Result<(), MacroNo>
     ensures ok { OnOk result (place_of position.new ≡ spec.with_conditions (place_of position.old)
-        (record { pos = pos; judged = judged; taken = taken; has_else = false } ∷ (place_of position.old).conditions)) }
+        (record { pos = pos; counts = counts; taken = taken; has_else = false } ∷ (place_of position.old).conditions)) }
     ensures err { IfErr result (λ no. IsFault no → ⊥) }
 {
     position
         .conditions
         .push_front(Condition {
             pos,
-            judged,
+            counts,
             taken,
             has_else: false,
         })

@@ -1,24 +1,23 @@
 ghost use Rattle.std.specs.Prelude.{◌≡◌, Ok, Err, OnOk, IfOk, IfErr};
 ghost use Rattle.asm_macro.specs.Refusals.{IsFault, Refuses};
 ghost use Rattle.std.specs.List.{before_first};
-ghost use Rattle.asm_macro.specs.Tokens.{is_newline};
-ghost use Rattle.asm_macro.specs.Directives as forms;
+ghost use Rattle.asm_directive.specs.Tokens.{is_newline};
+ghost use Rattle.asm_directive.specs.Directives as forms;
+ghost use Rattle.asm_directive.specs.Statements as statements;
 ghost use Rattle.asm_macro.specs.Files as spec;
 ghost use Rattle.asm_macro.specs.Views.{context_of, place_of, state_of, entered_of, AreBuiltIn};
 
 use crate::built_in::Rows;
 use crate::condition::{Condition, is_taken};
 use crate::directives::{Directive, execute, skip};
-use crate::keyword::keyword_of;
 use crate::macros::Macros;
-use crate::mapping::{Mapping, moved};
-use crate::names::NameMap;
+use crate::mapping::{Mapping, mapped_pos};
 use crate::pending::Pending;
 use crate::placed::Placed;
 use crate::refusal::MacroNo;
-use crate::statements::{Statement, before_newline, behind_first, statements_of};
 use crate::uses::{expand_statement, placed_at};
 use crate::work::Produced;
+use asm_directive::{NameMap, Statement, before_newline, behind_first, keyword_of, statements_of};
 use asm_lex::Token;
 use goasm_base::{Memory, Pos};
 use std::alloc::Global;
@@ -60,7 +59,7 @@ fn placed_in(
 {
     let mut placed = Vec::new(alloc);
     for token in tokens {
-        placed.push(placed_at(alloc, moved(mapping, token.pos), levels, token)?)?;
+        placed.push(placed_at(alloc, mapped_pos(mapping, token.pos), levels, token)?)?;
     }
     Ok(placed)
 }
@@ -123,7 +122,7 @@ fn directive_of<'a>(pos: Pos, end: u32, tokens: &'a [Token]) -> Directive<'a>
     ensures pos { result.pos ≡ pos }
     ensures end { result.end ≡ end }
     ensures keyword { result.keyword ≡ forms.keyword_of (before_first is_newline tokens.now) }
-    ensures words { result.words.now ≡ spec.rest_of (before_first is_newline tokens.now) }
+    ensures words { result.words.now ≡ statements.rest_of (before_first is_newline tokens.now) }
 {
     let words = before_newline(tokens);
     Directive {
@@ -154,7 +153,7 @@ fn read_statement<'a>(
     let [first, tokens @ ..] = statement.tokens else {
         return Ok(None);
     };
-    let pos = moved(position.mapping, first.pos);
+    let pos = mapped_pos(position.mapping, first.pos);
     if statement.directive {
         let directive = directive_of(pos, end_line(first, statement.tokens), tokens);
         return read_directive(alloc, environment, levels, directive, position, progress);

@@ -1,24 +1,15 @@
 ghost use Rattle.std.specs.Prelude.{◌≡◌, OnOk, Some, None};
 ghost use Rattle.std.specs.Option.{option_map, option_copied};
-ghost use Rattle.asm_macro.specs.Names.{nothing, with_name};
+ghost use Rattle.asm_directive.specs.Names.{nothing, with_name};
 ghost use Rattle.asm_macro.specs.Definitions.{in_force};
-ghost use Rattle.asm_macro.specs.Views.{names_of, parameters_of, definition_of, definitions_of};
+ghost use Rattle.asm_directive.specs.Views.{names_of, parameters_of};
+ghost use Rattle.asm_macro.specs.Views.{definition_of, definitions_of};
 
 use crate::built_in::BuiltIn;
-use crate::names::NameMap;
-use crate::tokens::is_word;
+use asm_directive::{NameMap, ParameterMap, is_word};
 use asm_lex::Token;
 use goasm_base::Memory;
 use std::alloc::Global;
-
-/// The parameters of a macro.
-#[derive(Drop)]
-pub struct ParameterMap<'a> {
-    /// How many there are.
-    pub count: usize,
-    /// Which of them a name is, from 0.
-    pub places: NameMap<'a, usize>,
-}
 
 /// A macro.
 #[derive(Drop)]

@@ -15,9 +15,9 @@ pub struct Mapping {
     pub line: u32,
 }
 
-#[tactic(auto, unfolding(crate::specs::Positions::moved))]
-pub fn moved(mapping: Option<Mapping>, pos: Pos) -> Pos
-    ensures { result ≡ spec.moved mapping pos }
+#[tactic(auto, unfolding(crate::specs::Positions::mapped_pos))]
+pub fn mapped_pos(mapping: Option<Mapping>, pos: Pos) -> Pos
+    ensures { result ≡ spec.mapped_pos mapping pos }
 {
     match mapping {
         None => pos,

@@ -4,7 +4,7 @@ ghost use Rattle.asm_macro.specs.Pending as spec;
 
 use crate::limits::MOST_PENDING;
 use crate::placed::Placed;
-use crate::tokens::{is_end, is_sign};
+use asm_directive::{is_end, is_sign};
 use goasm_base::Memory;
 use std::alloc::Global;
 use std::collections::VecDeque;

@@ -1,17 +1,18 @@
 ghost use Rattle.std.specs.Prelude.{◌≡◌, ◌++◌, ◌-◌, ◌<◌, Ok, None, map, IfOk, IfErr, OnOk};
 ghost use Rattle.asm_macro.specs.Refusals.{Refuses};
 ghost use Rattle.asm_macro.specs.Uses as spec;
-ghost use Rattle.asm_macro.specs.Views.{parameters_if, definition_of, definitions_of, work_of};
+ghost use Rattle.asm_directive.specs.Views.{parameters_if};
+ghost use Rattle.asm_macro.specs.Views.{definition_of, definitions_of, work_of};
 
 use crate::arguments::{Arguments, fits, take_arguments};
 use crate::cause::{Cause, lower, refusal};
 use crate::limits::MOST_PENDING;
-use crate::macros::{Macro, Macros, ParameterMap};
+use crate::macros::{Macro, Macros};
 use crate::pending::Pending;
 use crate::placed::Placed;
 use crate::refusal::MacroNo;
-use crate::tokens::is_word;
 use crate::work::{Met, Produced};
+use asm_directive::{ParameterMap, is_word};
 use asm_lex::Token;
 use goasm_base::{List, Memory, Pos};
 use std::alloc::Global;
@@ -45,38 +46,38 @@ fn parameter_in(parameters: &Option<ParameterMap<'_>>, token: &Token) -> Option<
 // Puts the tokens of an argument behind others.
 fn add_argument(
     alloc: Global,
-    filled: &mut Vec<Placed>,
+    substitution: &mut Vec<Placed>,
     pos: Pos,
     levels: usize,
     argument: &[Placed],
 ) -> Result<(), Memory>
-    ensures { OnOk result (filled.new.items
-        ≡ filled.old.items ++ map (λ placed. spec.placed_at pos levels placed.token) argument.now) }
+    ensures { OnOk result (substitution.new.items
+        ≡ substitution.old.items ++ map (λ placed. spec.placed_at pos levels placed.token) argument.now) }
 {
     for placed in argument {
-        filled.push(placed_at(alloc, pos, levels, &placed.token)?)?;
+        substitution.push(placed_at(alloc, pos, levels, &placed.token)?)?;
     }
     Ok(())
 }
 
 // Puts behind others what stands for a token of a body.
-fn add_standing(
+fn add_tokens_for(
     alloc: Global,
-    filled: &mut Vec<Placed>,
+    substitution: &mut Vec<Placed>,
     pos: Pos,
     levels: usize,
     parameters: &Option<ParameterMap<'_>>,
     lists: &[List<Placed>],
     token: &Token,
 ) -> Result<(), Memory>
-    ensures { OnOk result (filled.new.items ≡ filled.old.items
-        ++ spec.standing pos levels lists.now token.now (spec.parameter_in (parameters_if parameters.now) token.now)) }
+    ensures { OnOk result (substitution.new.items ≡ substitution.old.items
+        ++ spec.tokens_for pos levels lists.now token.now (spec.parameter_in (parameters_if parameters.now) token.now)) }
 {
     match parameter_in(parameters, token) {
-        None => filled.push(placed_at(alloc, pos, levels, token)?)?,
+        None => substitution.push(placed_at(alloc, pos, levels, token)?)?,
         Some(place) => {
             if place < lists.len() {
-                add_argument(alloc, filled, pos, levels, lists[place].as_slice())?;
+                add_argument(alloc, substitution, pos, levels, lists[place].as_slice())?;
             }
         }
     }
@@ -84,8 +85,8 @@ fn add_standing(
 }
 
 /// The body of a macro with its arguments put in.
-#[tactic(auto, unfolding(crate::specs::Uses::filled))]
-fn filled(
+#[tactic(auto, unfolding(crate::specs::Uses::substitution))]
+fn substitution(
     alloc: Global,
     pos: Pos,
     levels: usize,
@@ -93,7 +94,7 @@ fn filled(
     lists: &[List<Placed>],
 ) -> Result<Vec<Placed>, Memory>
     ensures { IfOk result (λ made. made.items
-        ≡ spec.filled pos levels (parameters_if definition.now.parameters) lists.now definition.now.body.now) }
+        ≡ spec.substitution pos levels (parameters_if definition.now.parameters) lists.now definition.now.body.now) }
 {
     let mut made = Vec::new(alloc);
     let body = definition.body;
@@ -101,7 +102,7 @@ fn filled(
         if made.len() >= MOST_PENDING {
             return Err(Memory);
         }
-        add_standing(
+        add_tokens_for(
             alloc,
             &mut made,
             pos,
@@ -137,17 +138,23 @@ fn read_use(
                 return Ok(Some(lower(found, Cause::Nesting)));
             }
             let pos = met.name.token.pos;
-            pending.push_all(filled(alloc, pos, arguments.levels - 1, met.definition, lists)?)?;
+            pending.push_all(substitution(
+                alloc,
+                pos,
+                arguments.levels - 1,
+                met.definition,
+                lists,
+            )?)?;
             Ok(found)
         }
     }
 }
 
 // The cause at the use that passes the limit.
-#[tactic(auto, unfolding(crate::specs::Uses::passed))]
-fn passed(alloc: Global, met: &Met<'_, '_>, pending: &mut Pending) -> Result<Cause, Memory>
+#[tactic(auto, unfolding(crate::specs::Uses::limit_cause))]
+fn limit_cause(alloc: Global, met: &Met<'_, '_>, pending: &mut Pending) -> Result<Cause, Memory>
     ensures { IfOk result
-        (λ cause. cause ≡ spec.passed (definition_of met.now.definition.now) met.now.name pending.old) }
+        (λ cause. cause ≡ spec.limit_cause (definition_of met.now.definition.now) met.now.name pending.old) }
 {
     let levels = match take_arguments(alloc, &met.definition.parameters, &met.name, pending)? {
         None => met.name.levels,
@@ -178,7 +185,7 @@ pub fn expand_statement(
     let mut found = None;
     while let Some(met) = produced.put_front(macros, &mut pending, found, pos)? {
         if produced.uses == 0 {
-            let cause = passed(alloc, &met, &mut pending)?;
+            let cause = limit_cause(alloc, &met, &mut pending)?;
             return Err(refusal(lower(found, cause), pos));
         }
         produced.uses -= 1;

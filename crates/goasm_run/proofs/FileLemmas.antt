@@ -1,6 +1,7 @@
 -- The files in which refusals stand have names, and `#line` directives leave room for their numbers.
-use Rattle.std.proofs.Common.{◌≡◌, ◌≢◌, ◌+◌, ◌-◌, ◌*◌, ◌<◌, ◌≤◌, ◌^◌, ℕ, List, [], ◌∷◌, ◌++◌, map, length, arith, refl, ap, ◌∙◌, length-append, rules}
+use Rattle.std.proofs.Common.{◌≡◌, ◌≢◌, ◌+◌, ◌-◌, ◌*◌, ◌<◌, ◌≤◌, ◌^◌, ℕ, List, [], ◌∷◌, ◌++◌, map, length, drop, arith, refl, ap, ◌∙◌, length-append, rules}
 use Rattle.std.proofs.lemmas.List.{length-map}
+use Rattle.std.proofs.Math.Seq.{drop-append_seam}
 use Rattle.std.specs.Prelude.{All}
 use Rattle.std.specs.List.{fold}
 use Rattle.std.proofs.lemmas.List.Elements.{All-head, All-tail, All-weaker, All-append, All-map}
@@ -11,7 +12,8 @@ use Rattle.asm_lex.specs.Faults.{IsInFile}
 use Rattle.asm_lex.specs.Form.{AreTokens}
 use Rattle.asm_macro.specs.declared.refusal.MacroNo.{MacroNo}
 use Rattle.asm_macro.specs.declared.refusal.MacroNo.TheVariants as macros
-use Rattle.asm_macro.specs.Builds.{token_count, included_tokens, line_names_of, greatest, greatest_file}
+use Rattle.asm_directive.specs.LineNames.{token_count, included_tokens, line_names_of}
+use Rattle.asm_macro.specs.Builds.{greatest, greatest_file}
 use Rattle.asm_macro.specs.Places.{AreInTheirFile, ArePlaced, RefusedIn, IsBelow, file_count}
 use Rattle.asm_macro.specs.Refusals.{IsFault}
 use Rattle.asm_macro.proofs.BuildLemmas.{greatest_append}
@@ -170,3 +172,9 @@ names_enough names more files found lexed some same is =
     let count : length files ≡ length names + length more = ap length is ∙ length-append names more in
     let lines : length more ≡ length (line_names_of found.sources found.includes) = ap length same in
     omega (arith, last, count, lines)
+
+-- the names in `#line` directives stand behind those of the files
+
+pub lines_behind : (names more files lines : List (List ℕ)) (count : ℕ) → count ≡ length names → files ≡ names ++ more → lines ≡ drop count files → lines ≡ more
+lines_behind names more files lines count counted is behind =
+    behind ∙ ap (drop count) is ∙ ap (λ n. drop n (names ++ more)) counted ∙ drop-append_seam names more

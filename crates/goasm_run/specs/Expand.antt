@@ -5,7 +5,8 @@ use Rattle.asm_lex.specs.declared.token.Kind.{Kind}
 use Rattle.asm_lex.specs.declared.token.Kind.TheVariants.{Word, Number, Text, Sign, End}
 use Rattle.asm_lex.specs.declared.token.Token.{Token}
 use Rattle.asm_lex.specs.declared.token.Tokens.{Tokens}
-use Rattle.asm_macro.specs.Builds.{Outcome, Done, Refused, line_names_of, outcome_of}
+use Rattle.asm_directive.specs.LineNames.{line_names_of}
+use Rattle.asm_macro.specs.Builds.{Outcome, Done, Refused, outcome_of}
 use Rattle.goasm_list.specs.declared.line.ListLine.{ListLine}
 use Rattle.goasm_text.specs.declared.refusal.Refusal.TheVariants.{Macro}
 use Rattle.goasm_text.specs.Lines.{newline, place_text, line_of}

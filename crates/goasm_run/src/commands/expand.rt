@@ -1,6 +1,7 @@
-ghost use Rattle.std.specs.Prelude.{◌≡◌, ℕ, List, [], ◌++◌, ◌+◌, ◌<◌, ◌^◌, ◌≤◌, All, length, Bool, false, IfOk, IfErr, OnOk, Ok};
+ghost use Rattle.std.specs.Prelude.{◌≡◌, ℕ, List, [], ◌++◌, ◌+◌, ◌<◌, ◌^◌, ◌≤◌, All, length, drop, Bool, false, IfOk, IfErr, OnOk, Ok};
 ghost use Rattle.goasm_base.specs.Shelf.{Reads};
-ghost use Rattle.asm_macro.specs.Builds.{greatest_file, line_names_of, outcome_of};
+ghost use Rattle.asm_directive.specs.LineNames.{line_names_of};
+ghost use Rattle.asm_macro.specs.Builds.{greatest_file, outcome_of};
 ghost use Rattle.goasm_run.specs.declared.stop.Stop.TheVariants as stops;
 ghost use Rattle.goasm_list.specs.Rules as list;
 ghost use Rattle.goasm_run.specs.Changes.{shelf_change};
@@ -21,8 +22,9 @@ use crate::parts::read_parts;
 use crate::read::read_named;
 use crate::sources::{Sources, file_names, lexed};
 use crate::stop::Stop;
+use asm_directive::line_names;
 use asm_lex::{Kind, Token, Tokens};
-use asm_macro::{MacroNo, line_names};
+use asm_macro::{MacroNo, expand_named};
 use goasm_base::{Bytes, Memory, Name, Shelf, Text};
 use goasm_list::ListLine;
 use goasm_text::{Refusal, line_of, push_place};
@@ -83,13 +85,28 @@ fn over_tokens(alloc: Global, names: Vec<Name>, found: &Sources) -> Result<Bytes
     ensures { Gives (over_sources names.items (Ok (seen found.now))) result }
 {
     let more = line_names(alloc, found.sources.as_slice(), found.includes.as_slice())?;
+    let count = names.len();
     let files = with_more(names, more)?;
-    over_files(alloc, files.as_slice(), found)
+    over_files(
+        alloc,
+        files.as_slice(),
+        names_behind(files.as_slice(), count),
+        found,
+    )
 }
 
-// The text over the tokens of the build and the names of its files, those of `#line` directives included.
+// The names behind this many others.
+fn names_behind(files: &[Name], count: usize) -> &[Name]
+    requires { count ≤ length files.now }
+    ensures { result.now ≡ drop count files.now }
+{
+    &files[count..]
+}
+
+// The text over the tokens of the build and the names of its files, of which those of `#line` directives come last.
 #[tactic(auto, using(crate::proofs::FileLemmas::macro_named, crate::proofs::FileLemmas::macro_caused, crate::proofs::FileLemmas::macro_fault))]
-fn over_files(alloc: Global, files: &[Name], found: &Sources) -> Result<Bytes, Stop>
+fn over_files(alloc: Global, files: &[Name], lines: &[Name], found: &Sources) -> Result<Bytes, Stop>
+    requires lines { lines.now ≡ line_names_of found.now.sources.items found.now.includes.items }
     requires sources { All AreTokens found.now.sources.items }
     requires includes { All (λ include. AreTokens include.1) found.now.includes.items }
     requires defines { All (λ define. AreTokens define.1) found.now.defines.items }
@@ -100,11 +117,12 @@ fn over_files(alloc: Global, files: &[Name], found: &Sources) -> Result<Bytes, S
     ensures { Gives (over_outcome files.now
         (outcome_of (seen found.now).sources (seen found.now).includes (seen found.now).defines)) result }
 {
-    match asm_macro::expand(
+    match expand_named(
         alloc,
         found.sources.as_slice(),
         found.includes.as_slice(),
         found.defines.as_slice(),
+        lines,
     ) {
         Ok(all) => Ok(text(alloc, files, all.as_slice())?),
         Err(MacroNo::Memory) => Err(Stop::Memory),

@@ -1,27 +1,31 @@
-use Rattle.std.proofs.Common.{◌≡◌, ◌+◌, ◌∙◌}
-use Rattle.asm_macro.specs.Names.{nothing}
-use Rattle.asm_macro.specs.Builds.{line_names_of, greatest_file, numbered}
-use Rattle.asm_macro.specs.Views.{names_of}
-use Rattle.asm_macro.proofs.OutcomeLemmas.{ok_then, err_then, context_is, expansion_is}
+use Rattle.asm_macro.proofs.OutcomeLemmas.{ok_then, err_then, outcome_done, outcome_refused}
+use Rattle.asm_macro.proofs.PlaceLemmas.{formed_results, placed_results, results_of, refusal_of}
 use Rattle.asm_macro.proofs.builds.expand_named.Goals as goal
 
-numbers : (c : goal.After-drop-given-2)
-    → names_of c.in_ok-numbered_files.field-0
-    ≡ numbered (greatest_file c.args.sources.now c.args.includes.now c.args.defines.now + 1) nothing (line_names_of c.args.sources.now c.args.includes.now)
-numbers c = rw (c.requires.names, c.greatest_of.ensures) at c.in_ok-numbered_files.ensures
+pub returns-clause-expanded : goal.returns-clause-expanded
+returns-clause-expanded c =
+    ok_then _ _ c.expand_over.result (λ all is. outcome_done c.args.sources.now c.args.includes.now c.args.defines.now all.items is) c.expand_over.ensures.ok
 
-pub returns-clause-ok : goal.returns-clause-ok
-returns-clause-ok c =
-    ok_then _ _ c.expand_sources.result
-    (λ all is. expansion_is c.args.limits c.args.sources.now c.args.includes.now c.args.defines.now _ _
-    (context_is (record { includes = c.in_ok-included_files.field-0; files = c.in_ok-numbered_files.field-0; built_in = c.args.rows }) c.args.sources.now c.args.includes.now c.args.defines.now c.in_ok-included_files.ensures (numbers c))
-    c.in_ok-given.ensures.ok ∙ is)
-    c.expand_sources.ensures.ok
+pub returns-clause-refused : goal.returns-clause-refused
+returns-clause-refused c =
+    err_then _ _ c.expand_over.result (λ no is fault. outcome_refused c.args.sources.now c.args.includes.now c.args.defines.now no (is fault)) c.expand_over.ensures.err
 
-pub returns-clause-err : goal.returns-clause-err
-returns-clause-err c =
-    err_then _ _ c.expand_sources.result
-    (λ no is fault. expansion_is c.args.limits c.args.sources.now c.args.includes.now c.args.defines.now _ _
-    (context_is (record { includes = c.in_ok-included_files.field-0; files = c.in_ok-numbered_files.field-0; built_in = c.args.rows }) c.args.sources.now c.args.includes.now c.args.defines.now c.in_ok-included_files.ensures (numbers c))
-    c.in_ok-given.ensures.ok ∙ is fault)
-    c.expand_sources.ensures.err
+pub returns-clause-form : goal.returns-clause-form
+returns-clause-form c =
+    let good = formed_results _ c.args.sources.now c.args.includes.now c.args.defines.now c.requires.sources c.requires.includes c.requires.defines in
+    ok_then _ _ c.expand_over.result (λ all is. (results_of _ _ _ all.items good is).forms) c.expand_over.ensures.ok
+
+pub returns-clause-few : goal.returns-clause-few
+returns-clause-few c =
+    let good = formed_results _ c.args.sources.now c.args.includes.now c.args.defines.now c.requires.sources c.requires.includes c.requires.defines in
+    ok_then _ _ c.expand_over.result (λ all is. (results_of _ _ _ all.items good is).count) c.expand_over.ensures.ok
+
+pub returns-clause-places : goal.returns-clause-places
+returns-clause-places c = λ placed.
+    let good = placed_results _ c.args.sources.now c.args.includes.now c.args.defines.now c.requires.sources c.requires.includes c.requires.defines placed in
+    ok_then _ _ c.expand_over.result (λ all is. (results_of _ _ _ all.items good is).places) c.expand_over.ensures.ok
+
+pub returns-clause-place : goal.returns-clause-place
+returns-clause-place c = λ placed.
+    let good = placed_results _ c.args.sources.now c.args.includes.now c.args.defines.now c.requires.sources c.requires.includes c.requires.defines placed in
+    err_then _ _ c.expand_over.result (λ no is. refusal_of _ _ _ no good is) c.expand_over.ensures.err

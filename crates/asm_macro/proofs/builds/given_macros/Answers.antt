@@ -1,5 +1,5 @@
 use Rattle.std.proofs.Common.{is_some, sym, ap, ◌∙◌}
-use Rattle.asm_macro.specs.Views.{names_of}
+use Rattle.asm_directive.specs.Views.{names_of}
 use Rattle.asm_macro.proofs.BuildLemmas.{given_next}
 use Rattle.asm_macro.proofs.builds.given_macros.Goals as goal
 

@@ -1,5 +1,5 @@
 use Rattle.std.proofs.Common.{◌≡◌, drop}
-use Rattle.asm_macro.specs.Names.{nothing}
+use Rattle.asm_directive.specs.Names.{nothing}
 use Rattle.asm_macro.specs.Builds.{defined}
 use Rattle.asm_macro.specs.Views.{macros_in}
 use Rattle.asm_macro.proofs.builds.given_macros.Given as goal

@@ -1,5 +1,5 @@
 use Rattle.std.proofs.Common.{◌≡◌, drop}
-use Rattle.asm_macro.specs.Names.{nothing}
+use Rattle.asm_directive.specs.Names.{nothing}
 use Rattle.asm_macro.specs.Builds.{included}
 use Rattle.asm_macro.specs.Views.{files_in}
 use Rattle.asm_macro.proofs.builds.included_files.Given as goal

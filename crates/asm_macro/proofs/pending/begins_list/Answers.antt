@@ -1,5 +1,5 @@
 use Rattle.std.proofs.Common.{◌≡◌, true, false, ◌&&◌, nat_lt, sym, ap, ◌∙◌}
-use Rattle.asm_macro.specs.Tokens.{is_sign, opening}
+use Rattle.asm_directive.specs.Tokens.{is_sign, opening}
 use Rattle.asm_macro.proofs.BracketLemmas.{begins_at}
 use Rattle.asm_macro.proofs.pending.begins_list.Goals as goal
 

@@ -4,5 +4,5 @@ use Rattle.asm_macro.proofs.uses.add_argument.Given as goal
 
 abbrev pub invariant-loop-placed : goal.invariant-loop-placed
 invariant-loop-placed l =
-    l.filled.items ++ map (λ placed. placed_at l.pos l.levels placed.token) (drop l.placed-index l.argument)
-    ≡ l.initial.filled.items ++ map (λ placed. placed_at l.pos l.levels placed.token) l.argument
+    l.substitution.items ++ map (λ placed. placed_at l.pos l.levels placed.token) (drop l.placed-index l.argument)
+    ≡ l.initial.substitution.items ++ map (λ placed. placed_at l.pos l.levels placed.token) l.argument

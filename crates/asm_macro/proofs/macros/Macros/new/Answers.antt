@@ -1,6 +1,6 @@
 use Rattle.std.proofs.Common.{ℕ, List, Option, ap}
 use Rattle.asm_macro.specs.declared.macros.Macro.{Macro}
-use Rattle.asm_macro.specs.Names.{Names}
+use Rattle.asm_directive.specs.Names.{Names}
 use Rattle.asm_macro.specs.Views.{definitions_of, macros_in, own_first}
 use Rattle.asm_macro.proofs.macros.Macros.new.Goals as goal
 

@@ -1,8 +1,9 @@
 use Rattle.std.proofs.Common.{ℕ, List, Option, None, ap, ◌∙◌}
 use Rattle.asm_macro.specs.declared.macros.Macro.{Macro}
-use Rattle.asm_macro.specs.Names.{Names}
-use Rattle.asm_macro.specs.Views.{definitions_of, macros_in, names_of, own_first}
-use Rattle.asm_macro.proofs.NameLemmas.{own_put}
+use Rattle.asm_directive.specs.Names.{Names}
+use Rattle.asm_directive.specs.Views.{names_of}
+use Rattle.asm_macro.specs.Views.{definitions_of, macros_in, own_first}
+use Rattle.asm_macro.proofs.MacroNameLemmas.{own_put}
 use Rattle.asm_macro.proofs.macros.Macros.undefine.Goals as goal
 
 pub returns : goal.returns

@@ -1,7 +1,7 @@
 use Rattle.std.proofs.Common.{length, ◌∙◌}
-use Rattle.asm_macro.specs.Builds.{line_names_of}
+use Rattle.asm_directive.specs.LineNames.{line_names_of}
 use Rattle.goasm_run.specs.Sources.{seen}
-use Rattle.goasm_run.proofs.FileLemmas.{room_left, names_enough}
+use Rattle.goasm_run.proofs.FileLemmas.{room_left, names_enough, lines_behind}
 use Rattle.goasm_run.proofs.commands.expand.over_tokens.Goals as goal
 
 pub over_files-requires-clause-room : goal.over_files-requires-clause-room
@@ -16,3 +16,9 @@ over_files-requires-clause-named c =
     names_enough c.args.names.items c.in_ok-more.more.items c.as_slice-3.result.now (seen c.args.found.now)
     c.requires.lexed c.requires.named
     (rw (c.as_slice.ensures.value, c.as_slice-2.ensures.value) at c.in_ok-more.ensures.names) (c.as_slice-3.ensures.value ∙ c.in_ok-files.ensures.names)
+
+pub over_files-requires-clause-lines : goal.over_files-requires-clause-lines
+over_files-requires-clause-lines c =
+    lines_behind c.args.names.items c.in_ok-more.more.items c.as_slice-4.result.now c.names_behind.result.now c.len-count.result
+    (c.len-count.ensures ∙ c.args.names.ok.0) (c.as_slice-4.ensures.value ∙ c.in_ok-files.ensures.names) c.names_behind.ensures
+    ∙ (rw (c.as_slice.ensures.value, c.as_slice-2.ensures.value) at c.in_ok-more.ensures.names)

@@ -1,0 +1,13 @@
+use Rattle.std.proofs.Common.{◌≡◌, ◌++◌, map, length}
+use Rattle.std.specs.List.{flat_map}
+use Rattle.asm_directive.specs.Tokens.{is_newline}
+use Rattle.asm_directive.specs.Statements.{split_inclusive, statements_on, statements_of}
+use Rattle.asm_directive.specs.Views.{statement_of}
+use Rattle.asm_directive.proofs.statements.statements_of.Given as goal
+
+abbrev pub invariant-lines : goal.invariant-lines
+invariant-lines l =
+    map statement_of l.statements.items ++ flat_map statements_on (split_inclusive is_newline l.rest) ≡ statements_of l.tokens
+
+abbrev pub decreases-lines : goal.decreases-lines
+decreases-lines l = length l.rest

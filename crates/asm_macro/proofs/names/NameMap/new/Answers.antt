@@ -1,8 +1,0 @@
-use std.Path.{fun_ext}
-use Rattle.std.proofs.Common.{refl}
-use Rattle.asm_macro.specs.Views.{names_of}
-use Rattle.asm_macro.proofs.names.NameMap.new.Goals as goal
-
-pub returns : goal.returns
-unfolding names_of
-returns g c = fun_ext (λ name. rw c.new.ensures.empty refl)

@@ -1,6 +1,0 @@
-use Rattle.std.proofs.Common.{◌≡◌, ◌++◌, drop}
-use Rattle.asm_macro.specs.Texts.{values_from}
-use Rattle.asm_macro.proofs.texts.values.Given as goal
-
-abbrev pub invariant-loop-at : goal.invariant-loop-at
-invariant-loop-at l = l.values.items ++ values_from l.skip (drop l.at l.bytes) ≡ values_from 0 l.bytes

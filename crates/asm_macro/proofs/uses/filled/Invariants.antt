@@ -1,9 +1,0 @@
-use Rattle.std.proofs.Common.{◌≡◌, ◌++◌, drop}
-use Rattle.asm_macro.specs.Uses.{filled}
-use Rattle.asm_macro.specs.Views.{parameters_if}
-use Rattle.asm_macro.proofs.uses.filled.Given as goal
-
-abbrev pub invariant-loop-token : goal.invariant-loop-token
-invariant-loop-token l =
-    l.made.items ++ filled l.pos l.levels (parameters_if l.definition.parameters) l.lists (drop l.token-index l.body)
-    ≡ filled l.pos l.levels (parameters_if l.definition.parameters) l.lists l.body
