@@ -1,5 +1,5 @@
 -- A function becomes one list of lines, or is refused at one place for one reason.
-use Rattle.std.proofs.Common.{◌≡◌, ℕ, ◌+◌, ◌≤◌, ◌<◌, List, [], ◌∷◌, ◌++◌, map, Bool, refl, sym, ap, ◌∙◌, subst, inl, inr, arith}
+use Rattle.std.proofs.Common.{◌≡◌, ℕ, ◌+◌, ◌≤◌, ◌<◌, List, [], ◌∷◌, ◌++◌, map, length, Bool, false, None, refl, sym, ap, ◌∙◌, subst, inl, inr, arith}
 use Rattle.goasm_base.specs.declared.pos.Pos.{Pos}
 use Rattle.goasm_base.specs.declared.statement.Function.{Function}
 use Rattle.goasm_base.specs.declared.statement.Stmt.{Stmt}
@@ -14,9 +14,10 @@ use Rattle.asm_target.specs.declared.select_no.SelectNo.TheVariants as no
 use Rattle.asm_target.specs.declared.sequence.Sequence.{Sequence}
 use Rattle.asm_target.specs.InstructionSet.{InstructionSet}
 use Rattle.asm_target.specs.Selection.{DiffersInNumbers, IsRefused, Selection}
+use Rattle.stack_split.specs.FrameSizes.{is_checked}
 use Rattle.obj_rewrite.specs.Laws.{IsSettled}
-use Rattle.obj_rewrite.specs.Rewriting.{Code, IsStep, Refuses, Rewrites, Rules, rules_of, site_of}
-use Rattle.obj_rewrite.specs.Rewritten.{AreLines, IsRefusedAt, IsRewritten, IsUnwritten, IsWritten, opened}
+use Rattle.obj_rewrite.specs.Rewriting.{Code, IsStep, Refuses, Rewrites, Rules, line_of, rules_of, site_of}
+use Rattle.obj_rewrite.specs.Rewritten.{AreLines, IsRefusedAt, IsRewritten, IsUnwritten, IsWritten, appended, closing, opened}
 use Rattle.obj_rewrite.specs.Words.{is_goal}
 
 same_numbers : (stmt : Stmt) → DiffersInNumbers stmt stmt
@@ -113,3 +114,55 @@ module _ {I : Type 0} (rules : Rules I) (laws : IsSettled rules) where
         let equal : between' ≡ between = one_step (goals number) stmt number before between' between step' step in
         one_place stmts (number + 1) between place place' why why' rest
         (subst (λ code. Refuses rules goals stmts (number + 1) code place' why') equal rest')
+
+module _ {I : Type 0} (rules : Rules I) (laws : IsSettled rules) (function : Function) where
+  module _ (begun : Code I) where
+    one_written : (one other : Code I) → IsWritten rules function begun one → IsWritten rules function begun other → one ≡ other
+    one_written one other a b =
+        let equal : b.before ≡ a.before = one_code rules laws (is_goal function.stmts) function.stmts 0 begun b.before a.before b.statements a.statements in
+        one_code rules laws (λ number. false) (appended function) (length function.stmts) a.before one other a.jump
+        (subst (λ code. Rewrites rules (λ number. false) (appended function) (length function.stmts) code other) equal b.jump)
+
+    never_unwritten : (code : Code I) (place : Pos) (why : SelectNo) → IsWritten rules function begun code
+        → IsUnwritten rules function begun place why → ⊥
+    never_unwritten code place why a (inl refused) =
+        never_both rules laws (is_goal function.stmts) function.stmts 0 begun a.before place why a.statements refused
+    never_unwritten code place why a (inr (before, statements, refused)) =
+        let equal : before ≡ a.before = one_code rules laws (is_goal function.stmts) function.stmts 0 begun before a.before statements a.statements in
+        never_both rules laws (λ number. false) (appended function) (length function.stmts) a.before code place why a.jump
+        (subst (λ start. Refuses rules (λ number. false) (appended function) (length function.stmts) start place why) equal refused)
+
+    one_unwritten : (place place' : Pos) (why why' : SelectNo) → IsUnwritten rules function begun place why
+        → IsUnwritten rules function begun place' why' → (place ≡ place') × (why ≡ why')
+    one_unwritten place place' why why' (inl a) (inl b) =
+        one_place rules laws (is_goal function.stmts) function.stmts 0 begun place place' why why' a b
+    one_unwritten place place' why why' (inl a) (inr (before, statements, b)) =
+        absurd (never_both rules laws (is_goal function.stmts) function.stmts 0 begun before place why statements a)
+    one_unwritten place place' why why' (inr (before, statements, a)) (inl b) =
+        absurd (never_both rules laws (is_goal function.stmts) function.stmts 0 begun before place' why' statements b)
+    one_unwritten place place' why why' (inr (before, statements, a)) (inr (before', statements', b)) =
+        let equal : before' ≡ before = one_code rules laws (is_goal function.stmts) function.stmts 0 begun before' before statements' statements in
+        one_place rules laws (λ number. false) (appended function) (length function.stmts) before place place' why why' a
+        (subst (λ start. Refuses rules (λ number. false) (appended function) (length function.stmts) start place' why') equal b)
+
+  module _ (frame : FrameShape) (guard : Guard I) (entry : List I) where
+    pub one_body : (one other : Body I) → IsRewritten rules function frame guard entry one
+        → IsRewritten rules function frame guard entry other → (one.frame ≡ other.frame) × (one.code ≡ other.code)
+    one_body one other a b =
+        let equal : a.lines.code ≡ b.lines.code =
+        one_written (opened rules function frame guard entry) a.lines.code b.lines.code a.lines.written b.lines.written in (
+          a.same ∙ sym b.same,
+          a.lines.whole
+              ∙ ap (λ code. code.lines ++ map (λ pick. line_of pick function.pos 0 None) (closing (is_checked function frame) guard)) equal
+              ∙ sym b.lines.whole,
+        )
+
+    pub never_refused_at : (body : Body I) (place : Pos) (why : SelectNo) → IsRewritten rules function frame guard entry body
+        → ¬ IsRefusedAt rules function frame guard entry place why
+    never_refused_at body place why a = λ refused.
+        never_unwritten (opened rules function frame guard entry) a.lines.code place why a.lines.written refused.1
+
+    pub one_refusal : (place place' : Pos) (why why' : SelectNo) → IsRefusedAt rules function frame guard entry place why
+        → IsRefusedAt rules function frame guard entry place' why' → (place ≡ place') × (why ≡ why')
+    one_refusal place place' why why' a b =
+        one_unwritten (opened rules function frame guard entry) place place' why why' a.1 b.1

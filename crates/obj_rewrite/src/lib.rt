@@ -5,9 +5,11 @@
 mod draft;
 mod function;
 mod goals;
+mod laws;
 mod rewrite_no;
 mod statements;
 mod words;
 
 pub use function::rewrite;
+pub use laws::one_answer;
 pub use rewrite_no::RewriteNo;
