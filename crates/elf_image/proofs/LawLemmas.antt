@@ -16,8 +16,9 @@ use Rattle.elf_image.specs.Symbols.{null_symbol, first_reading, HasSymbols}
 use Rattle.elf_image.specs.Image.{HasHeader, HasProgram, HasPrograms, HasSectionsPlace, HasSections, HasZeros, HasGaps, names_in, count_in, symbols_start, ReadsSymbols, HasSymbolTable, IsImage}
 use Rattle.elf_image.specs.Written.{parts_bytes, symbol_bytes, name_bytes, string_bytes, locals_of, sizes_of, image_bytes, AreParts}
 use Rattle.elf_image.specs.Contents.{symbol_places, lies_outside, symbol_at, outside_in, Tells}
+use Rattle.elf_image.proofs.AllowLemmas.{ident_allowed, header_allowed, machine_fits, program_allowed, section_allowed, null_small, loaded_small, symbols_small, names_small}
 use Rattle.elf_image.proofs.LaidLemmas.{Laid, laid}
-use Rattle.elf_image.proofs.FoundLemmas.{ident_allowed, header_allowed, machine_fits, program_allowed, section_allowed, null_small, loaded_small, symbols_small, names_small, Fronts, fronts, Backs, backs, AreNear, near, Found, found}
+use Rattle.elf_image.proofs.FoundLemmas.{Fronts, fronts, Backs, backs, AreNear, near, Found, found}
 use Rattle.elf_image.proofs.PartLemmas.{parts_reading, parts_read, outside_read, parts_end, length_parts, entry_fits}
 use Rattle.elf_image.proofs.WrittenRowLemmas.{Allow, written_rows, bytes_stand}
 

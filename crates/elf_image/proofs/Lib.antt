@@ -11,6 +11,8 @@ pub mod LaidLemmas
 pub mod GroupLemmas
 pub mod NameLemmas
 pub mod PartLemmas
+pub mod AllowLemmas
 pub mod FoundLemmas
 pub mod LawLemmas
 pub mod WriteLemmas
+pub mod ShortLemmas

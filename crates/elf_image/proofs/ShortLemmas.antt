@@ -1,0 +1,39 @@
+-- Parts that are small enough for an image below 2 ^ 32 bytes.
+use Rattle.std.proofs.Common.{◌≡◌, ℕ, ◌+◌, ◌*◌, ◌<◌, ◌≤◌, ◌^◌, List, ◌∷◌, length, ◌∙◌, ap, arith, length-append}
+use Rattle.std.specs.List.{flat_map}
+use Rattle.byte_layout.specs.Joined.{aligned}
+use Rattle.byte_layout.proofs.JoinedLemmas.{aligned_near}
+use Rattle.elf_image.specs.declared.parts.SymbolPart.{SymbolPart}
+use Rattle.elf_image.specs.declared.parts.ImageParts.{ImageParts}
+use Rattle.elf_image.specs.Rows.{rows_bytes}
+use Rattle.elf_image.specs.Symbols.{null_symbol}
+use Rattle.elf_image.specs.Layout.{text_end, table_end, values_end, symbols_end, strings_end, labels_end}
+use Rattle.elf_image.specs.Written.{parts_bytes, symbol_bytes, name_bytes, string_bytes, sizes_of, image_bytes}
+use Rattle.elf_image.proofs.LaidLemmas.{laid}
+use Rattle.elf_image.proofs.PartLemmas.{length_parts}
+
+length_symbols : (symbols : List SymbolPart) → length (symbol_bytes symbols) ≡ 24 + 24 * length symbols
+unfolding symbol_bytes rows_bytes
+length_symbols symbols =
+    let rest = length_parts 1 symbols in
+    length-append (rows_bytes null_symbol) (parts_bytes 1 symbols) ∙ ap (λ n. 24 + n) rest
+
+length_strings : (symbols : List SymbolPart) → length (string_bytes symbols) ≤ length (flat_map name_bytes symbols) + 1
+unfolding string_bytes
+length_strings symbols = omega arith
+
+pub short_parts : (parts : ImageParts)
+    → length parts.text + length parts.table + length parts.values + 24 * length parts.symbols + length (flat_map name_bytes parts.symbols) < 2 ^ 31
+    → length (image_bytes parts) < 2 ^ 32
+short_parts parts small =
+    let sizes = sizes_of parts in
+    let long = (laid parts).long in
+    let symbols = length_symbols parts.symbols in
+    let strings = length_strings parts.symbols in
+    let one = aligned_near 4096 (text_end (sizes_of parts)) (omega arith) in
+    let two = aligned_near 4096 (table_end (sizes_of parts)) (omega arith) in
+    let three = aligned_near 8 (values_end (sizes_of parts)) (omega arith) in
+    let four = aligned_near 8 (symbols_end (sizes_of parts)) (omega arith) in
+    let five = aligned_near 8 (strings_end (sizes_of parts)) (omega arith) in
+    let six = aligned_near 8 (labels_end (sizes_of parts)) (omega arith) in
+    omega arith
