@@ -293,10 +293,10 @@ Pickable = IsPickable Fits aiming
 pub check_pickable : (frame : FrameShape) → IsFrame 243 frame → All Pickable (check frame).head × All Pickable (check frame).block
 check_pickable frame is = (
   All-cons Pickable (plain (Plain Limit)) (goes (Near false (pos 0)) to.Past ∷ []) (record { fit = tt; directed = λ to refers. absurd (cc) })
-  (All-cons Pickable (goes (Near false (pos 0)) to.Past) [] (record { fit = near_fit; directed = λ to refers. refl }) (All-nil Pickable)),
+      (All-cons Pickable (goes (Near false (pos 0)) to.Past) [] (record { fit = near_fit; directed = λ to refers. refl }) (All-nil Pickable)),
   All-cons Pickable (goes (Far true (pos 0)) to.Grow) (goes (Far false (pos 0)) to.Entry ∷ [])
-  (record { fit = far_fit; directed = λ to refers. refl })
-  (All-cons Pickable (goes (Far false (pos 0)) to.Entry) [] (record { fit = far_fit; directed = λ to refers. refl }) (All-nil Pickable)),
+      (record { fit = far_fit; directed = λ to refers. refl })
+      (All-cons Pickable (goes (Far false (pos 0)) to.Entry) [] (record { fit = far_fit; directed = λ to refers. refl }) (All-nil Pickable)),
 )
 
 few_entering : (n : ℕ) → length (entering n) ≤ 3

@@ -66,11 +66,11 @@ near_forms held d fit = record {
   jumps = elim [
     | zero ↦ (λ pc goal least low jumps. (λ at near. refl))
     | suc form ↦ (λ pc goal least low jumps. record {
-        opposite = cond_of (not held);
-        opposed = opposite held;
-        over = λ at near. refl;
-        jumps = λ at near. refl;
-      })
+      opposite = cond_of (not held);
+      opposed = opposite held;
+      over = λ at near. refl;
+      jumps = λ at near. refl;
+    })
   ];
 }
 

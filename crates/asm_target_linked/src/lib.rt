@@ -3,15 +3,13 @@
 //! that the laws of `asm_target` can be met where frames are made by sequences.
 #![tactic(auto)]
 
-
 mod aiming;
 mod decode;
 mod frames;
-
 mod instr;
 mod linked;
 mod make;
-
+mod select;
 
 pub use instr::{FrameOp, Instr, Op};
 pub use linked::Linked;
