@@ -8,3 +8,4 @@ pub mod FormLaws
 pub mod FrameLaws
 pub mod RunLaws
 pub mod ActLaws
+pub mod SelectLaws

@@ -9,6 +9,7 @@ mod frames;
 mod instr;
 mod linked;
 mod make;
+mod select;
 
 pub use instr::{FrameOp, Instr, Op};
 pub use linked::Linked;

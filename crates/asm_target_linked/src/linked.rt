@@ -4,9 +4,13 @@ ghost use Rattle.asm_target_linked.specs.Instr as spec;
 use crate::decode::decode;
 use crate::instr::Instr;
 use crate::make::{cond, far_next, frame_effect, goal, going, plain_effect};
+use crate::{aiming, frames, select};
 use arrayvec::ArrayVec;
-use asm_target::{Processor, Spelled, begins_with};
-use goasm_base::{Bytes, Memory, Text};
+use asm_target::{
+    Few, FrameShape, Guard, Part, Picked, Placed, Processor, SelectNo, Sequence, Site, Spelled,
+    Target, Width, begins_with,
+};
+use goasm_base::{Bytes, Memory, Stmt, Text};
 use machine_effect::{Effect, Next, Shape};
 use std::alloc::Global;
 
@@ -152,4 +156,100 @@ fn far_name(call: bool) -> &'static [u8]
     ensures { result.now ≡ spec.far_name call }
 {
     if call { b"CALL " } else { b"JMP " }
+}
+
+impl Target for Linked {
+    ghost use Rattle.asm_target_linked.specs.Forms.{aiming};
+    ghost use Rattle.asm_target_linked.specs.Frames as frames;
+    ghost use Rattle.asm_target_linked.specs.Selecting.{selection, widths};
+    ghost use Rattle.asm_target_linked.specs.ActLaws as acts;
+    ghost use Rattle.asm_target_linked.specs.FormLaws as forms;
+    ghost use Rattle.asm_target_linked.specs.FrameLaws as sequences;
+    ghost use Rattle.asm_target_linked.specs.SelectLaws as selects;
+
+    ghost selection = { selection };
+
+    ghost widths = { widths };
+
+    ghost aiming = { aiming };
+
+    ghost entry = { frames.entry };
+
+    ghost exit = { frames.exit };
+
+    ghost check = { frames.check };
+
+    ghost begins = { frames.begins };
+
+    ghost single = { selects.single };
+
+    ghost known = { selects.known };
+
+    ghost pickable = { λ stmt site code frame is. selects.pickable stmt site code is };
+
+    ghost few_bytes = { λ stmt site code frame is. selects.few_bytes stmt site code is };
+
+    ghost formed = { forms.formed };
+
+    ghost same_lengths = { forms.same_lengths };
+
+    ghost holds_goals = { forms.holds_goals };
+
+    ghost reaches = { forms.reaches };
+
+    ghost steady = { forms.steady };
+
+    ghost entering = { sequences.enters };
+
+    ghost leaving = { sequences.leaves };
+
+    ghost checking = { acts.checks };
+
+    ghost check_pickable = { acts.check_pickable };
+
+    ghost few_instructions = { acts.few_instructions };
+
+    ghost apart = { sequences.apart };
+
+    ghost told = { sequences.told };
+
+    ghost grows_anywhere = { sequences.grows_anywhere };
+
+    ghost acts = { acts.acts };
+
+    fn is_word(name: &[u8]) -> bool {
+        select::is_word(name)
+    }
+
+    fn width(_op: &[u8]) -> Width {
+        Width::Unknown
+    }
+
+    fn select(alloc: Global, stmt: &Stmt, _site: Site) -> Result<Vec<Picked<Instr>>, SelectNo> {
+        select::select(alloc, stmt)
+    }
+
+    fn forms(instr: &Instr, form: u8) -> Few<Instr> {
+        aiming::forms(instr, form)
+    }
+
+    fn aim(instr: &Instr, part: Part, place: u64, goal: u64) -> Option<Instr> {
+        aiming::aim(instr, part, place, goal)
+    }
+
+    fn enter(frame: FrameShape) -> Few<Instr> {
+        frames::enter(frame)
+    }
+
+    fn leave(frame: FrameShape) -> Few<Instr> {
+        frames::leave(frame)
+    }
+
+    fn guard(frame: FrameShape) -> Guard<Instr> {
+        frames::guard(frame)
+    }
+
+    fn sequence(code: &[Placed<Instr>]) -> Sequence {
+        frames::sequence(code)
+    }
 }
