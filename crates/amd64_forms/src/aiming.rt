@@ -284,7 +284,9 @@ fn symbol_mem(mem: Mem, distance: i64) -> Option<Mem>
     ensures { result ≡ (if is_some (spec.symbol_distance (Some mem)) && fits_bits 32 distance then Some (spec.mem_by distance mem) else None) }
 {
     match mem {
-        Mem::Symbol { .. } => Some(Mem::Symbol { distance: long_of(distance)? }),
+        Mem::Symbol { .. } => Some(Mem::Symbol {
+            distance: long_of(distance)?,
+        }),
         _ => None,
     }
 }

@@ -50,9 +50,17 @@ fn frames_are_entered_and_left(rt: HostRuntime) -> Result<(), Fail> {
     ] {
         if total != 128 {
             let code = Amd64::enter(frame(total));
-            assert_eq!(rt; hex::encode(rt.alloc(), bytes_of(rt.alloc(), &code)?.as_slice())?.as_str(), entry, "{total}");
+            assert_eq!(rt;
+                hex::encode(rt.alloc(), bytes_of(rt.alloc(), &code)?.as_slice())?.as_str(),
+                entry,
+                "{total}"
+            );
             let code = Amd64::leave(frame(total));
-            assert_eq!(rt; hex::encode(rt.alloc(), bytes_of(rt.alloc(), &code)?.as_slice())?.as_str(), exit, "{total}");
+            assert_eq!(rt;
+                hex::encode(rt.alloc(), bytes_of(rt.alloc(), &code)?.as_slice())?.as_str(),
+                exit,
+                "{total}"
+            );
         }
     }
     Ok(())
@@ -64,7 +72,10 @@ fn checks_are_of_three_kinds(rt: HostRuntime) -> Result<(), Fail> {
         (0, "64488b0c25f8ffffff483b61100f8600000000"),
         (128, "64488b0c25f8ffffff483b61100f8600000000"),
         (136, "64488b0c25f8ffffff488d4424f8483b41100f8600000000"),
-        (4096, "64488b0c25f8ffffff488d842480f0ffff483b41100f8600000000"),
+        (
+            4096,
+            "64488b0c25f8ffffff488d842480f0ffff483b41100f8600000000",
+        ),
         (
             4104,
             "64488b0c25f8ffffff4889e04881e8880f00000f8200000000483b41100f8600000000",
@@ -75,8 +86,23 @@ fn checks_are_of_three_kinds(rt: HostRuntime) -> Result<(), Fail> {
         ),
     ] {
         let guard = Amd64::guard(frame(total));
-        assert_eq!(rt; hex::encode(rt.alloc(), bytes_of_picks(rt.alloc(), &guard.head)?.as_slice())?.as_str(), head, "{total}");
-        assert_eq!(rt; hex::encode(rt.alloc(), bytes_of_picks(rt.alloc(), &guard.block)?.as_slice())?.as_str(), "e800000000e900000000");
+        assert_eq!(rt;
+            hex::encode(
+                rt.alloc(),
+                bytes_of_picks(rt.alloc(), &guard.head)?.as_slice()
+            )?
+            .as_str(),
+            head,
+            "{total}"
+        );
+        assert_eq!(rt;
+            hex::encode(
+                rt.alloc(),
+                bytes_of_picks(rt.alloc(), &guard.block)?.as_slice()
+            )?
+            .as_str(),
+            "e800000000e900000000"
+        );
         assert!(rt; !guard.in_place);
         let call = guard.block.get(0).refer;
         assert!(rt; call.is_some_and(|refer| refer.to == To::Grow && refer.part == Part::Whole));
@@ -130,17 +156,26 @@ fn jumps_have_two_forms(rt: HostRuntime) -> Result<(), Fail> {
         match Amd64::read(&bytes) {
             Some((instr, _)) => {
                 let form = Amd64::forms(&instr, 0);
-                assert_eq!(rt; hex::encode(rt.alloc(), Amd64::spell(&form.get(0)).as_slice())?.as_str(), short);
+                assert_eq!(rt;
+                    hex::encode(rt.alloc(), Amd64::spell(&form.get(0)).as_slice())?.as_str(),
+                    short
+                );
                 let aimed = Amd64::aim(&form.get(0), Part::Whole, 0x1000, 0x1080);
                 match (aimed, goal) {
                     (Some(aimed), Some(goal)) => {
-                        assert_eq!(rt; hex::encode(rt.alloc(), Amd64::spell(&aimed).as_slice())?.as_str(), goal);
+                        assert_eq!(rt;
+                            hex::encode(rt.alloc(), Amd64::spell(&aimed).as_slice())?.as_str(),
+                            goal
+                        );
                     }
                     (aimed, goal) => assert!(rt; aimed.is_none() && goal.is_none(), "{digits}"),
                 }
                 assert!(rt; Amd64::aim(&form.get(0), Part::High, 0x1000, 0x1080).is_none());
                 let form = Amd64::forms(&instr, 1);
-                assert_eq!(rt; hex::encode(rt.alloc(), Amd64::spell(&form.get(0)).as_slice())?.as_str(), long);
+                assert_eq!(rt;
+                    hex::encode(rt.alloc(), Amd64::spell(&form.get(0)).as_slice())?.as_str(),
+                    long
+                );
             }
             None => assert!(rt; false, "{digits} is an instruction"),
         }

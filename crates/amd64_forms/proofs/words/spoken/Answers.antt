@@ -12,6 +12,6 @@ unfolding Says
 returns-in-Some-clause-only c = λ s says.
     elim says as (λ _. Some (Listed c.in-Some.mnemonic) ≡ Some s) [
       | inl one ↦ ap (λ (s : Spoken). Some s)
-      (ap Listed (mnemonics_apart c.in-Some.mnemonic one.0 (c.in-Some.ensures.found ∙ sym one.1)) ∙ sym one.2)
+          (ap Listed (mnemonics_apart c.in-Some.mnemonic one.0 (c.in-Some.ensures.found ∙ sym one.1)) ∙ sym one.2)
       | inr other ↦ absurd (mnemonic_no_alias c.in-Some.mnemonic other.0 (c.in-Some.ensures.found ∙ sym other.1))
     ]
