@@ -7,4 +7,6 @@ mod disassembly;
 #[cfg(test)]
 mod effects;
 #[cfg(test)]
+mod linked;
+#[cfg(test)]
 mod target;
