@@ -7,6 +7,7 @@ mod disassembly;
 #[cfg(test)]
 mod effects;
 #[cfg(test)]
+mod linked;
 mod relaxation;
 #[cfg(test)]
 mod target;
