@@ -1,5 +1,5 @@
 -- A function becomes one list of lines, or is refused at one place for one reason.
-use Rattle.std.proofs.Common.{◌≡◌, ℕ, ◌+◌, ◌≤◌, ◌<◌, List, [], ◌∷◌, ◌++◌, map, length, Bool, false, None, refl, sym, ap, ◌∙◌, subst, inl, inr, arith}
+use Rattle.std.proofs.Common.{◌≡◌, ℕ, ◌+◌, List, [], ◌∷◌, ◌++◌, map, length, Bool, false, None, refl, sym, ap, ◌∙◌, subst, inl, inr}
 use Rattle.goasm_base.specs.declared.pos.Pos.{Pos}
 use Rattle.goasm_base.specs.declared.statement.Function.{Function}
 use Rattle.goasm_base.specs.declared.statement.Stmt.{Stmt}
@@ -17,7 +17,7 @@ use Rattle.asm_target.specs.Selection.{DiffersInNumbers, IsRefused, Selection}
 use Rattle.stack_split.specs.FrameSizes.{is_checked}
 use Rattle.obj_rewrite.specs.Laws.{IsSettled}
 use Rattle.obj_rewrite.specs.Rewriting.{Code, IsStep, Refuses, Rewrites, Rules, line_of, rules_of, site_of}
-use Rattle.obj_rewrite.specs.Rewritten.{AreLines, IsRefusedAt, IsRewritten, IsUnwritten, IsWritten, appended, closing, opened}
+use Rattle.obj_rewrite.specs.Rewritten.{IsRefusedAt, IsRewritten, IsUnwritten, IsWritten, appended, closing, opened}
 use Rattle.obj_rewrite.specs.Words.{is_goal}
 
 same_numbers : (stmt : Stmt) → DiffersInNumbers stmt stmt
@@ -153,8 +153,8 @@ module _ {I : Type 0} (rules : Rules I) (laws : IsSettled rules) (function : Fun
         one_written (opened rules function frame guard entry) a.lines.code b.lines.code a.lines.written b.lines.written in (
           a.same ∙ sym b.same,
           a.lines.whole
-          ∙ ap (λ code. code.lines ++ map (λ pick. line_of pick function.pos 0 None) (closing (is_checked function frame) guard)) equal
-          ∙ sym b.lines.whole,
+              ∙ ap (λ code. code.lines ++ map (λ pick. line_of pick function.pos 0 None) (closing (is_checked function frame) guard)) equal
+              ∙ sym b.lines.whole,
         )
 
     pub never_refused_at : (body : Body I) (place : Pos) (why : SelectNo) → IsRewritten rules function frame guard entry body

@@ -63,7 +63,12 @@ fn append<I: Copy>(draft: &mut Draft<I>, line: Line<I>) -> Result<(), Memory>
 }
 
 /// Adds a line of a statement, or of none.
-pub fn add<T: Target>(draft: &mut Draft<T::Instr>, pick: Picked<T::Instr>, pos: Pos, stmt: Option<u32>) -> Result<(), Memory>
+pub fn add<T: Target>(
+    draft: &mut Draft<T::Instr>,
+    pick: Picked<T::Instr>,
+    pos: Pos,
+    stmt: Option<u32>,
+) -> Result<(), Memory>
     requires { IsDraft draft.old }
     ensures draft { OnOk result (IsDraft draft.new) }
     ensures added { OnOk result (written draft.new
@@ -81,7 +86,12 @@ pub fn add<T: Target>(draft: &mut Draft<T::Instr>, pick: Picked<T::Instr>, pos: 
         },
     )?;
     let number = draft.code.len() - 1;
-    let by = change::<T>(draft.code.as_slice(), draft.depths.as_slice(), draft.targets.as_slice(), number);
+    let by = change::<T>(
+        draft.code.as_slice(),
+        draft.depths.as_slice(),
+        draft.targets.as_slice(),
+        number,
+    );
     draft.depth = depth_behind(depth, by);
     Ok(())
 }
@@ -103,7 +113,12 @@ fn depth_behind(depth: u32, change: i64) -> u32
 }
 
 /// Adds the lines of a statement, or of none.
-pub fn add_all<T: Target>(draft: &mut Draft<T::Instr>, picks: &[Picked<T::Instr>], pos: Pos, stmt: Option<u32>) -> Result<(), Memory>
+pub fn add_all<T: Target>(
+    draft: &mut Draft<T::Instr>,
+    picks: &[Picked<T::Instr>],
+    pos: Pos,
+    stmt: Option<u32>,
+) -> Result<(), Memory>
     requires { IsDraft draft.old }
     ensures draft { OnOk result (IsDraft draft.new) }
     ensures added { OnOk result (written draft.new
@@ -116,7 +131,11 @@ pub fn add_all<T: Target>(draft: &mut Draft<T::Instr>, picks: &[Picked<T::Instr>
 }
 
 /// Adds the lines of a short list, which belong to no statement.
-pub fn add_few<T: Target>(draft: &mut Draft<T::Instr>, picks: &Few<Picked<T::Instr>>, pos: Pos) -> Result<(), Memory>
+pub fn add_few<T: Target>(
+    draft: &mut Draft<T::Instr>,
+    picks: &Few<Picked<T::Instr>>,
+    pos: Pos,
+) -> Result<(), Memory>
     requires { IsDraft draft.old }
     ensures draft { OnOk result (IsDraft draft.new) }
     ensures added { OnOk result (written draft.new

@@ -44,7 +44,11 @@ pub fn rewrite<T: Target>(alloc: Global, func: &Function) -> Result<Body<T::Inst
 }
 
 // The instructions of a function with this frame.
-fn rewrite_in<T: Target>(alloc: Global, func: &Function, frame: FrameShape) -> Result<Body<T::Instr>, RewriteNo>
+fn rewrite_in<T: Target>(
+    alloc: Global,
+    func: &Function,
+    frame: FrameShape,
+) -> Result<Body<T::Instr>, RewriteNo>
     requires valid { (symbols : ℕ) × IsValidFunction symbols func.now }
     requires frame { IsFrame T.MACHINE frame }
     ensures body { IfOk result (λ body. spec.IsRewritten (rules_of T.instructions T.SHAPE T.begins T.selection frame) func.now
@@ -67,7 +71,12 @@ fn rewrite_in<T: Target>(alloc: Global, func: &Function, frame: FrameShape) -> R
 }
 
 // Adds the instructions of a function's statements, and those of the jump to itself.
-fn add_function<T: Target>(alloc: Global, draft: &mut Draft<T::Instr>, func: &Function, frame: FrameShape) -> Result<(), RewriteNo>
+fn add_function<T: Target>(
+    alloc: Global,
+    draft: &mut Draft<T::Instr>,
+    func: &Function,
+    frame: FrameShape,
+) -> Result<(), RewriteNo>
     requires valid { (symbols : ℕ) × IsValidFunction symbols func.now }
     requires draft { IsDraft draft.old }
     requires frame { IsFrame T.MACHINE frame }
@@ -84,7 +93,12 @@ fn add_function<T: Target>(alloc: Global, draft: &mut Draft<T::Instr>, func: &Fu
 }
 
 // Adds the instructions of the jump to itself, where one is appended.
-fn add_jump<T: Target>(alloc: Global, draft: &mut Draft<T::Instr>, func: &Function, frame: FrameShape) -> Result<(), RewriteNo>
+fn add_jump<T: Target>(
+    alloc: Global,
+    draft: &mut Draft<T::Instr>,
+    func: &Function,
+    frame: FrameShape,
+) -> Result<(), RewriteNo>
     requires valid { (symbols : ℕ) × IsValidFunction symbols func.now }
     requires draft { IsDraft draft.old }
     requires frame { IsFrame T.MACHINE frame }
@@ -120,7 +134,12 @@ fn self_jump(alloc: Global, func: &Function) -> Result<Stmt, Memory>
 }
 
 // Adds the block that has the stack grow, where it ends the function.
-fn add_closing<T: Target>(lines: &mut Vec<Line<T::Instr>>, frame: FrameShape, check: bool, pos: Pos) -> Result<(), Memory>
+fn add_closing<T: Target>(
+    lines: &mut Vec<Line<T::Instr>>,
+    frame: FrameShape,
+    check: bool,
+    pos: Pos,
+) -> Result<(), Memory>
     requires { IsFrame T.MACHINE frame }
     ensures { OnOk result (lines.new.items ≡ lines.old.items
         ++ map (λ pick. line_of pick pos 0 None) (spec.closing check (T.check frame))) }
@@ -132,7 +151,11 @@ fn add_closing<T: Target>(lines: &mut Vec<Line<T::Instr>>, frame: FrameShape, ch
     Ok(())
 }
 
-fn add_block<I: Copy + Default>(lines: &mut Vec<Line<I>>, block: &Few<Picked<I>>, pos: Pos) -> Result<(), Memory>
+fn add_block<I: Copy + Default>(
+    lines: &mut Vec<Line<I>>,
+    block: &Few<Picked<I>>,
+    pos: Pos,
+) -> Result<(), Memory>
     ensures { OnOk result (lines.new.items ≡ lines.old.items ++ map (λ pick. line_of pick pos 0 None) block.now) }
 {
     for number in 0..block.len() {

@@ -65,7 +65,14 @@ pub fn add_stmts<T: Target>(
     ensures fits { (place : Pos) (total : ℕ) → ¬ (result ≡ Err (RewriteNo.RW1 place total)) }
 {
     for number in 0..stmts.len() {
-        add_stmt::<T>(alloc, draft, &stmts[number], number as u32, goals[number], frame)?;
+        add_stmt::<T>(
+            alloc,
+            draft,
+            &stmts[number],
+            number as u32,
+            goals[number],
+            frame,
+        )?;
     }
     Ok(())
 }

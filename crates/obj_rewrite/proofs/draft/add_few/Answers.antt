@@ -1,4 +1,4 @@
-use Rattle.std.proofs.Common.{◌≡◌, ◌+◌, None, drop, ap, ◌∙◌, sym, rules}
+use Rattle.std.proofs.Common.{◌+◌, None, drop, ap, ◌∙◌, sym}
 use Rattle.obj_rewrite.specs.Draft.{written}
 use Rattle.obj_rewrite.specs.Rewriting.{all_added, last_change}
 use Rattle.obj_rewrite.proofs.DraftLemmas.{from_place}
@@ -10,6 +10,6 @@ loop-number-preserved g c =
     let rest = drop (c.loop-number.number + 1) c.args.picks.now in (
       c.in_ok-add.ensures.draft,
       ap (λ code. all_added change code rest c.args.pos None) c.in_ok-add.ensures.added
-      ∙ sym (ap (λ picks. all_added change (written c.loop-number.draft) picks c.args.pos None)
-      (from_place c.args.picks.now c.loop-number.number c.get.result c.get.ensures)) ∙ c.loop-number.invariant.1,
+          ∙ sym (ap (λ picks. all_added change (written c.loop-number.draft) picks c.args.pos None)
+          (from_place c.args.picks.now c.loop-number.number c.get.result c.get.ensures)) ∙ c.loop-number.invariant.1,
     )

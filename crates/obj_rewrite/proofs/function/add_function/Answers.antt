@@ -1,4 +1,4 @@
-use Rattle.std.proofs.Common.{◌≡◌, ℕ, inl, inr, rules, Err}
+use Rattle.std.proofs.Common.{◌≡◌, inl, inr, rules, Err}
 use Rattle.obj_rewrite.specs.Draft.{written}
 use Rattle.obj_rewrite.specs.Rewriting.{rules_of}
 use Rattle.obj_rewrite.specs.declared.rewrite_no.RewriteNo.TheVariants.{Select}
@@ -11,8 +11,8 @@ returns-in_err-add_stmts-clause-refused g c = λ place why same.
     let told = rw same at c.from_residual-in_err-add_stmts.ensures.1 in
     let err : Err c.in_err-add_stmts.field-0.0 ≡ Err (Select place why) = search rules in
     inl (as_goals_refused table c.as_slice.result.now c.in_ok-goals.goals.items c.as_slice-stmts.result.now c.args.func.now.stmts
-        (written c.args.draft.now) place why c.as_slice.ensures.value c.as_slice-stmts.ensures c.in_ok-goals.ensures.each
-        (c.in_err-add_stmts.ensures.refused place why err))
+    (written c.args.draft.now) place why c.as_slice.ensures.value c.as_slice-stmts.ensures c.in_ok-goals.ensures.each
+    (c.in_err-add_stmts.ensures.refused place why err))
 
 pub returns-clause-written : goal.returns-clause-written
 returns-clause-written g c =

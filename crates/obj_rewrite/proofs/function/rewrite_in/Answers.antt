@@ -15,9 +15,10 @@ returns-in_err-add_function-clause-refused g c = λ place why same.
     c.in_ok-add_few.ensures.added
     ∙ ap (λ code. all_added table.change code c.prologue.result c.args.func.now.pos None) c.empty-draft.ensures.empty
     ∙ ap (λ picks. all_added table.change (code_of [] [] 0 false) picks c.args.func.now.pos None) (c.prologue.ensures
-    ∙ ap (opening (g.T.Target.check c.args.frame) (g.T.Target.entry c.args.frame)) c.checked-check.ensures) in
-    (c.requires.frame.most,
-    subst (λ code. IsUnwritten table c.args.func.now code place why) begun (c.in_err-add_function.ensures.refused place why err))
+    ∙ ap (opening (g.T.Target.check c.args.frame) (g.T.Target.entry c.args.frame)) c.checked-check.ensures) in (
+      c.requires.frame.most,
+      subst (λ code. IsUnwritten table c.args.func.now code place why) begun (c.in_err-add_function.ensures.refused place why err),
+    )
 
 pub returns-clause-body : goal.returns-clause-body
 returns-clause-body g c =

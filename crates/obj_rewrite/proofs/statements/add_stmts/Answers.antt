@@ -1,5 +1,4 @@
-use Rattle.std.proofs.Common.{◌≡◌, ◌<◌, length, false, get_or, ap, ◌∙◌, sym, arith, rules, Err}
-use Rattle.obj_rewrite.specs.declared.rewrite_no.RewriteNo.{RewriteNo}
+use Rattle.std.proofs.Common.{◌≡◌, ◌<◌, length, false, get_or, arith, rules, Err}
 use Rattle.obj_rewrite.specs.declared.rewrite_no.RewriteNo.TheVariants.{Select}
 use Rattle.obj_rewrite.specs.Draft.{written}
 use Rattle.obj_rewrite.specs.Rewriting.{rules_of}
@@ -13,8 +12,8 @@ returns-in_err-add_stmt-clause-refused g c = λ place why same.
     let told = rw same at c.from_residual.ensures.1 in
     let err : Err c.in_err-add_stmt.field-0.0 ≡ Err (Select place why) = search rules in
     c.loop-number.invariant.2 place why (refused_here table (λ number. get_or c.args.goals.now number false) c.args.stmts.now
-        c.loop-number.number c.index-stmts-number.result (written c.loop-number.draft) place why inside
-        c.index-stmts-number.is (c.in_err-add_stmt.ensures.refused place why err))
+    c.loop-number.number c.index-stmts-number.result (written c.loop-number.draft) place why inside
+    c.index-stmts-number.is (c.in_err-add_stmt.ensures.refused place why err))
 
 pub loop-number-preserved : goal.loop-number-preserved
 loop-number-preserved g c =
