@@ -1,5 +1,5 @@
 -- Lines that are added to a draft.
-use Rattle.std.proofs.Common.{◌≡◌, ℕ, suc, ℤ, pos, ◌+ℤ◌, ◌+◌, ◌-◌, ◌<◌, List, [], ◌∷◌, ◌++◌, map, length, drop, get_or, Bool, false, Option, Some, refl, sym, ap, ◌∙◌, add-one, arith}
+use Rattle.std.proofs.Common.{◌≡◌, ℕ, suc, ℤ, pos, ◌+ℤ◌, ◌+◌, ◌-◌, ◌<◌, List, [], ◌∷◌, ◌++◌, map, length, drop, get_or, Bool, false, Option, Some, sym, ap, ◌∙◌, add-one}
 use Rattle.std.proofs.lemmas.List.{map-append, length-map}
 use Rattle.std.proofs.lemmas.Option.{slice_get_within, get_or_from_slice_get}
 use Rattle.std.proofs.Math.Seq.{drop-cons}
@@ -14,7 +14,7 @@ use Rattle.asm_target.specs.DepthChange.{depth_change, depth_view_of}
 use Rattle.asm_target.specs.InstructionSet.{InstructionSet}
 use Rattle.obj_rewrite.specs.declared.draft.Draft.{Draft}
 use Rattle.obj_rewrite.specs.Draft.{IsDraft, written}
-use Rattle.obj_rewrite.specs.Rewriting.{Code, added, clamped, code_of, last_change, line_of}
+use Rattle.obj_rewrite.specs.Rewriting.{added, clamped, code_of, last_change, line_of}
 
 -- what a list has from one place on
 pub from_here : {X : Type 0} (xs : List X) (k : ℕ) (x : X) → k < length xs → x ≡ get_or xs k x → drop k xs ≡ x ∷ drop (k + 1) xs

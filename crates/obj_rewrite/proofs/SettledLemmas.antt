@@ -1,5 +1,5 @@
 -- A function becomes one list of lines, or is refused at one place for one reason.
-use Rattle.std.proofs.Common.{◌≡◌, ℕ, ◌+◌, ◌≤◌, ◌<◌, List, [], ◌∷◌, ◌++◌, map, length, Bool, false, None, refl, sym, ap, ◌∙◌, subst, inl, inr, arith}
+use Rattle.std.proofs.Common.{◌≡◌, ℕ, ◌+◌, List, [], ◌∷◌, ◌++◌, map, length, Bool, false, None, refl, sym, ap, ◌∙◌, subst, inl, inr}
 use Rattle.goasm_base.specs.declared.pos.Pos.{Pos}
 use Rattle.goasm_base.specs.declared.statement.Function.{Function}
 use Rattle.goasm_base.specs.declared.statement.Stmt.{Stmt}
@@ -17,7 +17,7 @@ use Rattle.asm_target.specs.Selection.{DiffersInNumbers, IsRefused, Selection}
 use Rattle.stack_split.specs.FrameSizes.{is_checked}
 use Rattle.obj_rewrite.specs.Laws.{IsSettled}
 use Rattle.obj_rewrite.specs.Rewriting.{Code, IsStep, Refuses, Rewrites, Rules, line_of, rules_of, site_of}
-use Rattle.obj_rewrite.specs.Rewritten.{AreLines, IsRefusedAt, IsRewritten, IsUnwritten, IsWritten, appended, closing, opened}
+use Rattle.obj_rewrite.specs.Rewritten.{IsRefusedAt, IsRewritten, IsUnwritten, IsWritten, appended, closing, opened}
 use Rattle.obj_rewrite.specs.Words.{is_goal}
 
 same_numbers : (stmt : Stmt) → DiffersInNumbers stmt stmt

@@ -1,4 +1,4 @@
-use Rattle.std.proofs.Common.{◌≡◌, ◌-◌, ap, ◌∙◌, sym}
+use Rattle.std.proofs.Common.{◌-◌, ap, ◌∙◌, sym}
 use Rattle.asm_target.proofs.DepthLemmas.{kept}
 use Rattle.obj_rewrite.proofs.DraftLemmas.{with_line}
 use Rattle.obj_rewrite.proofs.draft.add.Goals as goal

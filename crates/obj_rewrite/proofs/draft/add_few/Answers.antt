@@ -1,4 +1,4 @@
-use Rattle.std.proofs.Common.{◌≡◌, ◌+◌, None, drop, ap, ◌∙◌, sym, rules}
+use Rattle.std.proofs.Common.{◌+◌, None, drop, ap, ◌∙◌, sym}
 use Rattle.obj_rewrite.specs.Draft.{written}
 use Rattle.obj_rewrite.specs.Rewriting.{all_added, last_change}
 use Rattle.obj_rewrite.proofs.DraftLemmas.{from_place}

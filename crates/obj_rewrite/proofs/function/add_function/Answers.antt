@@ -1,4 +1,4 @@
-use Rattle.std.proofs.Common.{◌≡◌, ℕ, inl, inr, rules, Err}
+use Rattle.std.proofs.Common.{◌≡◌, inl, inr, rules, Err}
 use Rattle.obj_rewrite.specs.Draft.{written}
 use Rattle.obj_rewrite.specs.Rewriting.{rules_of}
 use Rattle.obj_rewrite.specs.declared.rewrite_no.RewriteNo.TheVariants.{Select}

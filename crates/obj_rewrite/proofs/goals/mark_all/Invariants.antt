@@ -1,5 +1,4 @@
 use Rattle.std.proofs.Common.{◌≡◌, ℕ, ◌<◌, ◌||◌, length, drop, false, get_or}
-use Rattle.std.specs.List.{list_any}
 use Rattle.obj_rewrite.specs.Words as words
 use Rattle.obj_rewrite.proofs.goals.mark_all.Given as goal
 

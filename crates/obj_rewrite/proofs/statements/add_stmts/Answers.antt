@@ -1,5 +1,4 @@
-use Rattle.std.proofs.Common.{◌≡◌, ◌<◌, length, false, get_or, ap, ◌∙◌, sym, arith, rules, Err}
-use Rattle.obj_rewrite.specs.declared.rewrite_no.RewriteNo.{RewriteNo}
+use Rattle.std.proofs.Common.{◌≡◌, ◌<◌, length, false, get_or, arith, rules, Err}
 use Rattle.obj_rewrite.specs.declared.rewrite_no.RewriteNo.TheVariants.{Select}
 use Rattle.obj_rewrite.specs.Draft.{written}
 use Rattle.obj_rewrite.specs.Rewriting.{rules_of}

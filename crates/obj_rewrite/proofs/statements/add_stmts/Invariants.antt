@@ -1,4 +1,4 @@
-use Rattle.std.proofs.Common.{◌≡◌, drop, false, get_or}
+use Rattle.std.proofs.Common.{drop, false, get_or}
 use Rattle.goasm_base.specs.declared.pos.Pos.{Pos}
 use Rattle.asm_target.specs.declared.select_no.SelectNo.{SelectNo}
 use Rattle.obj_rewrite.specs.Draft.{IsDraft, written}
