@@ -133,6 +133,24 @@ fn failing_devices_have_their_status(rt: HostRuntime) -> Result<(), Fail> {
 }
 
 #[test]
+fn a_table_may_be_longer_than_1_mib(rt: HostRuntime) -> Result<(), Fail> {
+    let alloc = rt.alloc();
+    let zeros = vec![in alloc; 0u8; (1 << 20) + 1]?;
+    let mut files = Vec::new(alloc);
+    files.push(file(alloc, b"zeros.tab", &zeros)?)?;
+    test_runs::expect(
+        &rt,
+        alloc,
+        "a table of zeros",
+        &[b"lookup", b"zeros.tab", b"1"],
+        files,
+        NONE,
+        (1, b"", b"zeros.tab: TB1 at 0\n"),
+    )?;
+    Ok(())
+}
+
+#[test]
 fn only_the_files_that_are_named_are_read(rt: HostRuntime) -> Result<(), Fail> {
     let alloc = rt.alloc();
     let list = b"asm b.s\ninclude t.h\ndefine D 1\nasm a.s\nasm b.s\n";
