@@ -8,6 +8,7 @@ mod disassembly;
 mod effects;
 #[cfg(test)]
 mod linked;
+#[cfg(test)]
 mod relaxation;
 #[cfg(test)]
 mod target;
