@@ -20,7 +20,12 @@ const LONGEST: usize = 5;
 ///
 /// Of the instructions only what they are counts, not their places, and none behind the one that is asked for. `depths` are their
 /// depths in bytes, `targets` says to which of them a jump of the function goes. It looks back at four instructions at most.
-pub fn change<T: Target>(code: &[Placed<T::Instr>], depths: &[u32], targets: &[bool], number: usize) -> i64
+pub fn change<T: Target>(
+    code: &[Placed<T::Instr>],
+    depths: &[u32],
+    targets: &[bool],
+    number: usize,
+) -> i64
     requires inside { number < length code.now }
     requires depths { length depths.now ≡ length code.now }
     requires targets { length targets.now ≡ length code.now }
@@ -46,7 +51,13 @@ fn moved_by<T: Target>(instr: &T::Instr) -> i64
 }
 
 // What the sequence adds that ends with the instruction of this number and has at most so many instructions.
-fn added_within<T: Target>(code: &[Placed<T::Instr>], depths: &[u32], targets: &[bool], number: usize, most: usize) -> i64
+fn added_within<T: Target>(
+    code: &[Placed<T::Instr>],
+    depths: &[u32],
+    targets: &[bool],
+    number: usize,
+    most: usize,
+) -> i64
     requires inside { number < length code.now }
     requires depths { length depths.now ≡ length code.now }
     requires targets { length targets.now ≡ length code.now }
@@ -63,7 +74,13 @@ fn added_within<T: Target>(code: &[Placed<T::Instr>], depths: &[u32], targets: &
 }
 
 // The sequence that begins so many instructions before the one of this number and ends with it.
-fn ended<T: Target>(code: &[Placed<T::Instr>], depths: &[u32], targets: &[bool], number: usize, back: usize) -> Option<Sequence>
+fn ended<T: Target>(
+    code: &[Placed<T::Instr>],
+    depths: &[u32],
+    targets: &[bool],
+    number: usize,
+    back: usize,
+) -> Option<Sequence>
     requires inside { number < length code.now }
     requires depths { length depths.now ≡ length code.now }
     requires targets { length targets.now ≡ length code.now }
@@ -112,7 +129,9 @@ fn count_of(found: Sequence) -> usize
 {
     match found {
         Sequence::Plain => 1,
-        Sequence::Saving { count, .. } | Sequence::Restoring { count, .. } | Sequence::Growth { count } => usize::from(count),
+        Sequence::Saving { count, .. }
+        | Sequence::Restoring { count, .. }
+        | Sequence::Growth { count } => usize::from(count),
     }
 }
 

@@ -5,5 +5,5 @@ use Rattle.asm_target.proofs.depth.added_within.Given as goal
 abbrev pub invariant-loop-turn : goal.invariant-loop-turn
 invariant-loop-turn g l =
     let view = depth_view_of g.T.Processor.instructions g.T.Processor.SHAPE g.T.Target.begins
-        (map (λ placed. placed.instr) l.code) l.depths l.targets in
+    (map (λ placed. placed.instr) l.code) l.depths l.targets in
     added_within view l.number (l.most - l.turn) ≡ added_within view l.number l.most

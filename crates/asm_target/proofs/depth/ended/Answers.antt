@@ -13,19 +13,19 @@ returns-then-does_end-clause-stops g c =
     let inside : c.args.back ≤ c.args.number = omega arith in
     let within : c.args.number < length c.args.depths.now = omega arith in
     ends_in g.T.Processor.instructions g.T.Processor.SHAPE g.T.Target.begins c.args.code.now c.args.depths.now c.args.targets.now
-        c.args.number c.args.back c.sequence-found.result c.is_hit.result c.does_end.result inside within c.sequence-found.ensures
-        c.is_hit.ensures c.does_end.ensures
+    c.args.number c.args.back c.sequence-found.result c.is_hit.result c.does_end.result inside within c.sequence-found.ensures
+    c.is_hit.ensures c.does_end.ensures
     ∙ ap (λ ends. if ends then depth_added_by c.sequence-found.result else added_within (depth_view_of g.T.Processor.instructions
-        g.T.Processor.SHAPE g.T.Target.begins (map (λ placed. placed.instr) c.args.code.now) c.args.depths.now c.args.targets.now)
-        c.args.number c.args.back) c.if-does_end.true
+    g.T.Processor.SHAPE g.T.Target.begins (map (λ placed. placed.instr) c.args.code.now) c.args.depths.now c.args.targets.now)
+    c.args.number c.args.back) c.if-does_end.true
 
 pub returns-else-does_end-clause-goes : goal.returns-else-does_end-clause-goes
 returns-else-does_end-clause-goes g c = λ none.
     let inside : c.args.back ≤ c.args.number = omega arith in
     let within : c.args.number < length c.args.depths.now = omega arith in
     ends_in g.T.Processor.instructions g.T.Processor.SHAPE g.T.Target.begins c.args.code.now c.args.depths.now c.args.targets.now
-        c.args.number c.args.back c.sequence-found.result c.is_hit.result c.does_end.result inside within c.sequence-found.ensures
-        c.is_hit.ensures c.does_end.ensures
+    c.args.number c.args.back c.sequence-found.result c.is_hit.result c.does_end.result inside within c.sequence-found.ensures
+    c.is_hit.ensures c.does_end.ensures
     ∙ ap (λ ends. if ends then depth_added_by c.sequence-found.result else added_within (depth_view_of g.T.Processor.instructions
-        g.T.Processor.SHAPE g.T.Target.begins (map (λ placed. placed.instr) c.args.code.now) c.args.depths.now c.args.targets.now)
-        c.args.number c.args.back) c.if-does_end.false
+    g.T.Processor.SHAPE g.T.Target.begins (map (λ placed. placed.instr) c.args.code.now) c.args.depths.now c.args.targets.now)
+    c.args.number c.args.back) c.if-does_end.false
