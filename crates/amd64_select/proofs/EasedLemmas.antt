@@ -113,21 +113,28 @@ all_zero : (s : Spoken) (site : Site) (ops : List Operand) (a b : Option Resolve
 all_zero s site [] a b all = (ap zero_option all.0, ap zero_option all.1)
 all_zero s site (op ∷ []) a b all =
     (zero_resolved all.0, resolves_zero s site op all.0 all.1, ap zero_option all.2, ap zero_option all.3)
-all_zero s site (op ∷ other ∷ []) a b all =
-    (zero_resolved all.0, zero_resolved all.1, resolves_zero s site op all.0 all.2, resolves_zero s site other all.1 all.3,
-    ap zero_option all.4, ap zero_option all.5)
+all_zero s site (op ∷ other ∷ []) a b all = (
+  zero_resolved all.0,
+  zero_resolved all.1,
+  resolves_zero s site op all.0 all.2,
+  resolves_zero s site other all.1 all.3,
+  ap zero_option all.4,
+  ap zero_option all.5,
+)
 all_zero s site (op ∷ other ∷ third ∷ more) a b all = absurd all
 
 picks_zero : (s : Spoken) (lock : Bool) (site : Site) (ops : List Operand) (i : Instr) → Picks s lock site ops i
     → (j : Instr) × Picks s lock site (map (taken true site) ops) j
 picks_zero s lock site ops i picks =
-    let zero = becomes-zero s lock picks.first picks.second i picks.becomes in
-    (zero.0, record {
-      first = zero_option picks.first;
-      second = zero_option picks.second;
-      resolved = all_zero s site ops picks.first picks.second picks.resolved;
-      becomes = zero.1;
-    })
+    let zero = becomes-zero s lock picks.first picks.second i picks.becomes in (
+      zero.0,
+      record {
+        first = zero_option picks.first;
+        second = zero_option picks.second;
+        resolved = all_zero s site ops picks.first picks.second picks.resolved;
+        becomes = zero.1;
+      },
+    )
 
 pub picks_nothing : (lock : Bool) (site : Site) (ops : List Operand) (i : Instr) → Picks spoken.Nothing lock site ops i → ⊥
 unfolding BecomesOne stands
@@ -147,9 +154,11 @@ pub could_by : (s : Spoken) (stmt : Stmt) (site : Site) (i : Instr) → stmt.suf
     → Picks s stmt.lock site (map (taken true site) stmt.operands) i → CouldBe selection stmt site
 could_by s stmt site i plain says picks =
     let other : Stmt = record stmt { operands = map (taken true site) stmt.operands } in
-    let becomes = becomes_picked s other site i picks in
-    (other, record { lock = refl; op = refl; suffix = refl; operands = sym (all_numbers site stmt.operands) },
-    (becomes.0, record { plain = plain; spoken = s; says = says; by = becomes.1 }))
+    let becomes = becomes_picked s other site i picks in (
+      other,
+      record { lock = refl; op = refl; suffix = refl; operands = sym (all_numbers site stmt.operands) },
+      (becomes.0, record { plain = plain; spoken = s; says = says; by = becomes.1 }),
+    )
 
 -- and what it becomes is nothing, or such an instruction
 pub picked_by : (s : Spoken) (stmt : Stmt) (site : Site) (code : List (Picked Instr)) → BecomesBy s stmt site code
@@ -177,7 +186,9 @@ could_only s stmt site plain says unselected could =
     elim (picked_by s other site could.2.0 by) as (λ _. (j : Instr) × Picks s stmt.lock site (map (taken true site) stmt.operands) j) [
       | inl nothing ↦ absurd (unselected ([], nothing_selected stmt site plain (subst (Says stmt.op) nothing.0 says) (differs.lock ∙ nothing.1)))
       | inr found ↦
-          (let zero = picks_zero s other.lock site other.operands found.0 found.1 in
-          (zero.0, subst (λ (lock : Bool). Picks s lock site (map (taken true site) stmt.operands) zero.0) (sym differs.lock)
-          (subst (λ (ops : List Operand). Picks s other.lock site ops zero.0) (sym (all_eased site stmt.operands other.operands differs.operands)) zero.1)))
+          (let zero = picks_zero s other.lock site other.operands found.0 found.1 in (
+            zero.0,
+            subst (λ (lock : Bool). Picks s lock site (map (taken true site) stmt.operands) zero.0) (sym differs.lock)
+                (subst (λ (ops : List Operand). Picks s other.lock site ops zero.0) (sym (all_eased site stmt.operands other.operands differs.operands)) zero.1),
+          ))
     ]

@@ -51,5 +51,5 @@ unselected s stmt site says none locked selected =
     elim (picked_by s stmt site selected.0 by) as (λ _. ⊥) [
       | inl nothing ↦ absurd (let lock = locked nothing.0 in let free = nothing.1 in cc)
       | inr found ↦ none found.0
-      (subst (λ (ops : List Operand). Picks s stmt.lock site ops found.0) (sym (as_they_stand site stmt.operands)) found.1)
+          (subst (λ (ops : List Operand). Picks s stmt.lock site ops found.0) (sym (as_they_stand site stmt.operands)) found.1)
     ]

@@ -178,7 +178,7 @@ made frame is =
         record {
           goes = record { fit = fits_going near.Jmp; referred = refl };
           jumps = λ pc. (moved_by (end_of jump pc) (pos 0), nexts jump (end_of jump pc) ∙ jump_next (end_of jump pc));
-        }
+        },
       );
     }
 
@@ -217,12 +217,13 @@ subtracts_pickable k most = simple_pickable (by_constant Sub k Ax) (small k most
 pub check_pickable : (frame : FrameShape) → IsFrame 62 frame
     → All (aim.IsPickable Fits aiming) (check_of frame).head × All (aim.IsPickable Fits aiming) (check_of frame).block
 check_pickable frame is =
-    let most : frame.total - 128 ≤ 1048576 = omega (arith, is.most) in
-    (all_checked (aim.IsPickable Fits aiming) loads_pickable compares_pickable (λ code. going_pickable (near.If code) to.Block) copies_pickable
-    (frame.total - 128) (addresses_pickable (frame.total - 128) most) (subtracts_pickable (frame.total - 128) most) frame.total,
-    (let jump : Picked Instr = going near.Jmp to.Entry in
-    All-cons (aim.IsPickable Fits aiming) (going near.Call to.Grow) (jump ∷ []) (going_pickable near.Call to.Grow)
-    (All-cons (aim.IsPickable Fits aiming) jump [] (going_pickable near.Jmp to.Entry) (All-nil (aim.IsPickable Fits aiming)))))
+    let most : frame.total - 128 ≤ 1048576 = omega (arith, is.most) in (
+      all_checked (aim.IsPickable Fits aiming) loads_pickable compares_pickable (λ code. going_pickable (near.If code) to.Block) copies_pickable
+          (frame.total - 128) (addresses_pickable (frame.total - 128) most) (subtracts_pickable (frame.total - 128) most) frame.total,
+      (let jump : Picked Instr = going near.Jmp to.Entry in
+          All-cons (aim.IsPickable Fits aiming) (going near.Call to.Grow) (jump ∷ []) (going_pickable near.Call to.Grow)
+          (All-cons (aim.IsPickable Fits aiming) jump [] (going_pickable near.Jmp to.Entry) (All-nil (aim.IsPickable Fits aiming)))),
+    )
 
 pub few_checked : (n k : ℕ) → length (checked n k) ≤ 6
 few_checked n k = by (nat_le n 128) (nat_le n 4096)

@@ -206,6 +206,7 @@ jumps_alike i zero end other one is = subst (λ (k : Instr). aim.with_goal 0 (ne
   where
     first : {x y : Instr} → x ∷ [] ≡ y ∷ [] → x ≡ y
     first same = cc
+
     short_next : (j : Instr) → aim.with_goal 0 (next_of (short_of j) end) ≡ aim.with_goal 0 (next_of j other)
     short_next (instr.Near near.Jmp d) = refl
     short_next (instr.Near (near.If code) d) = refl
@@ -214,6 +215,7 @@ jumps_alike i (suc n) end other one is = subst (λ (k : Instr). aim.with_goal 0 
   where
     first : {x y : Instr} → x ∷ [] ≡ y ∷ [] → x ≡ y
     first same = cc
+
     long_next : (j : Instr) → aim.with_goal 0 (next_of (long_of j) end) ≡ aim.with_goal 0 (next_of j other)
     long_next (instr.Short None d) = refl
     long_next (instr.Short (Some code) d) = refl

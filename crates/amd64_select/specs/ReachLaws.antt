@@ -71,7 +71,6 @@ way w h place n goal half most few low near is =
           })
     ]
 
-
 record Half (i : Instr) : Type 0 where
   half : ℕ
   some : 1 ≤ half
@@ -100,14 +99,14 @@ reaches i fit directed =
       high_least = omega (arith, ints, some, h.some);
       reach = λ place goal low near whole. (
         (λ can.
-          let by = aimed_so i can.0 place goal can.1 in
-          let to : moved_by (place + n) by.distance ≡ goal =
-          ap (λ (end : ℕ). moved_by end by.distance) (sym (end_is i place low)) ∙ by.leads.to in
-          reaches_near (distance_bits i) h.half place n goal by.distance h.is h.most few low near by.leads.fit to),
+            let by = aimed_so i can.0 place goal can.1 in
+            let to : moved_by (place + n) by.distance ≡ goal =
+            ap (λ (end : ℕ). moved_by end by.distance) (sym (end_is i place low)) ∙ by.leads.to in
+            reaches_near (distance_bits i) h.half place n goal by.distance h.is h.most few low near by.leads.fit to),
         (λ is.
-          let w = way (distance_bits i) h.half place n goal h.is h.most few low near is in
-          let to : moved_by (end_of i place) w.distance ≡ goal =
-          ap (λ (end : ℕ). moved_by end w.distance) (end_is i place low) ∙ w.to in
-          (aimed_by w.distance i, aims_by i place goal w.distance fit directed (record { fit = w.fit; to = to })))
+            let w = way (distance_bits i) h.half place n goal h.is h.most few low near is in
+            let to : moved_by (end_of i place) w.distance ≡ goal =
+            ap (λ (end : ℕ). moved_by end w.distance) (end_is i place low) ∙ w.to in
+            (aimed_by w.distance i, aims_by i place goal w.distance fit directed (record { fit = w.fit; to = to }))),
       );
     }

@@ -2,7 +2,8 @@ use crate::listed::Listed;
 use crate::{aiming, frames, guard, selecting, width};
 use amd64_code::end_of;
 use asm_target::{
-    Few, FrameShape, Guard, Part, Picked, Placed, Processor, SelectNo, Sequence, Site, Spelled, Target, Width,
+    Few, FrameShape, Guard, Part, Picked, Placed, Processor, SelectNo, Sequence, Site, Spelled,
+    Target, Width,
 };
 use goasm_base::{Bytes, Memory, Stmt};
 use machine_effect::{Effect, Shape};

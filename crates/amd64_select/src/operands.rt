@@ -32,8 +32,16 @@ fn resolved(spoken: Spoken, site: Site, operand: &Operand) -> Option<Resolved>
     match operand {
         Operand::Imm(value) => Some(Resolved::Plain(Shown::Const(value.cast_signed()))),
         Operand::Word(name) => register(name.as_slice()),
-        Operand::Mem { off, base, index: None } => based(*off, base.as_slice()),
-        Operand::Mem { off, base, index: Some((index, scale)) } => indexed(*off, base.as_slice(), index.as_slice(), *scale),
+        Operand::Mem {
+            off,
+            base,
+            index: None,
+        } => based(*off, base.as_slice()),
+        Operand::Mem {
+            off,
+            base,
+            index: Some((index, scale)),
+        } => indexed(*off, base.as_slice(), index.as_slice(), *scale),
         Operand::Sym { address, .. } => Some(symbol(spoken, *address)),
         Operand::Arg { off, address, .. } => on_stack(*address, arguments_at(site), *off),
         Operand::Auto { off, address } => on_stack(*address, locals_at(site), *off),
@@ -50,8 +58,16 @@ fn eased(spoken: Spoken, site: Site, operand: &Operand) -> Option<Resolved>
     match operand {
         Operand::Imm(_) => Some(Resolved::Plain(Shown::Const(0))),
         Operand::Word(name) => register(name.as_slice()),
-        Operand::Mem { base, index: None, .. } => based(0, base.as_slice()),
-        Operand::Mem { base, index: Some((index, _)), .. } => indexed(0, base.as_slice(), index.as_slice(), 1),
+        Operand::Mem {
+            base,
+            index: None,
+            ..
+        } => based(0, base.as_slice()),
+        Operand::Mem {
+            base,
+            index: Some((index, _)),
+            ..
+        } => indexed(0, base.as_slice(), index.as_slice(), 1),
         Operand::Sym { address, .. } => Some(symbol(spoken, *address)),
         Operand::Arg { address, .. } => eased_on_stack(*address, arguments_at(site)),
         Operand::Auto { address, .. } => eased_on_stack(*address, locals_at(site)),
@@ -116,9 +132,8 @@ fn symbol(spoken: Spoken, address: bool) -> Resolved
     let place = Mem::Symbol { distance: 0 };
     match spoken {
         _ if address => Resolved::Address(place),
-        Spoken::Listed(Mnemonic::Jump | Mnemonic::JumpIf(_) | Mnemonic::Call) | Spoken::Direct(_) => {
-            Resolved::Plain(Shown::Goal(0))
-        }
+        Spoken::Listed(Mnemonic::Jump | Mnemonic::JumpIf(_) | Mnemonic::Call) | Spoken::Direct(_) =>
+            { Resolved::Plain(Shown::Goal(0)) }
         _ => Resolved::Plain(Shown::Mem(place)),
     }
 }

@@ -62,7 +62,13 @@ fn known(stmt: &Stmt) -> Option<Spoken>
 }
 
 // The instruction that a name with operands is, as they stand or with eased numbers.
-fn picked(ease: bool, spoken: Spoken, lock: bool, site: Site, operands: &[Operand]) -> Option<Listed>
+fn picked(
+    ease: bool,
+    spoken: Spoken,
+    lock: bool,
+    site: Site,
+    operands: &[Operand],
+) -> Option<Listed>
     ensures found { IfSome result (λ i. spec.Picks spoken lock site (map (operand_spec.taken ease site) operands.now) i) }
     ensures only { (i : Instr) → spec.Picks spoken lock site (map (operand_spec.taken ease site) operands.now) i → result ≡ Some i }
 {
@@ -70,7 +76,12 @@ fn picked(ease: bool, spoken: Spoken, lock: bool, site: Site, operands: &[Operan
     Listed::chosen(chosen(spoken, lock, first, second))
 }
 
-fn resolved(ease: bool, spoken: Spoken, site: Site, operands: &[Operand]) -> Option<(Option<Resolved>, Option<Resolved>)>
+fn resolved(
+    ease: bool,
+    spoken: Spoken,
+    site: Site,
+    operands: &[Operand],
+) -> Option<(Option<Resolved>, Option<Resolved>)>
     ensures found { IfSome result (λ two. spec.ResolveAll spoken site (map (operand_spec.taken ease site) operands.now) two.0 two.1) }
     ensures only { (first second : Option Resolved) → spec.ResolveAll spoken site (map (operand_spec.taken ease site) operands.now) first second
         → result ≡ Some (first, second) }
@@ -78,7 +89,10 @@ fn resolved(ease: bool, spoken: Spoken, site: Site, operands: &[Operand]) -> Opt
     match operands {
         [] => Some((None, None)),
         [one] => Some((Some(taken(ease, spoken, site, one)?), None)),
-        [one, other] => Some((Some(taken(ease, spoken, site, one)?), Some(taken(ease, spoken, site, other)?))),
+        [one, other] => Some((
+            Some(taken(ease, spoken, site, one)?),
+            Some(taken(ease, spoken, site, other)?),
+        )),
         _ => None,
     }
 }
@@ -101,11 +115,19 @@ fn refer_of(operand: &Operand) -> Option<Refer>
         Operand::Label(statement) => To::Stmt(*statement),
         _ => return None,
     };
-    Some(Refer { to, part: Part::Whole })
+    Some(Refer {
+        to,
+        part: Part::Whole,
+    })
 }
 
 // The instruction, and before RET those by which the function leaves its frame.
-fn code_of(alloc: Global, instr: Listed, refer: Option<Refer>, frame: FrameShape) -> Result<Vec<Picked<Listed>>, Memory>
+fn code_of(
+    alloc: Global,
+    instr: Listed,
+    refer: Option<Refer>,
+    frame: FrameShape,
+) -> Result<Vec<Picked<Listed>>, Memory>
     requires { IsFrame 62 frame }
     ensures { IfOk result (λ code. code.items ≡ spec.code_of instr refer frame) }
 {
@@ -119,9 +141,17 @@ fn before(alloc: Global, instr: &Listed, frame: FrameShape) -> Result<Vec<Picked
     ensures { IfOk result (λ code. code.items ≡ map spec.alone (spec.before instr.now frame)) }
 {
     let mut code = Vec::new(alloc);
-    if let Instr::Plain { op: Plain::Ret } = *instr.instr() && frame.total > 0 {
-        code.push(Picked { instr: restore(frame), refer: None })?;
-        code.push(Picked { instr: release(frame), refer: None })?;
+    if let Instr::Plain { op: Plain::Ret } = *instr.instr()
+        && frame.total > 0
+    {
+        code.push(Picked {
+            instr: restore(frame),
+            refer: None,
+        })?;
+        code.push(Picked {
+            instr: release(frame),
+            refer: None,
+        })?;
     }
     Ok(code)
 }
@@ -170,10 +200,16 @@ fn operand_names_words(operand: &Operand) -> bool
 {
     match operand {
         Operand::Word(name) => is_word(name.as_slice()),
-        Operand::Mem { base, index: None, .. } => is_register(base.as_slice()),
-        Operand::Mem { base, index: Some((index, _)), .. } => {
-            are_registers(base.as_slice(), index.as_slice())
-        }
+        Operand::Mem {
+            base,
+            index: None,
+            ..
+        } => is_register(base.as_slice()),
+        Operand::Mem {
+            base,
+            index: Some((index, _)),
+            ..
+        } => { are_registers(base.as_slice(), index.as_slice()) }
         Operand::Pair(first, second) => are_registers(first.as_slice(), second.as_slice()),
         Operand::Shifted { reg, .. } => is_register(reg.as_slice()),
         _ => true,

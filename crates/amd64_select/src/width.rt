@@ -44,9 +44,8 @@ fn width_of(mnemonic: Mnemonic) -> Width
         Mnemonic::StoreLow(StoreSize::Byte)
         | Mnemonic::Extend(Extend::ByteZero | Extend::ByteSign)
         | Mnemonic::SetCc(_) => Width::Bytes(1),
-        Mnemonic::StoreLow(StoreSize::Word) | Mnemonic::Extend(Extend::WordZero | Extend::WordSign) => {
-            Width::Bytes(2)
-        }
+        Mnemonic::StoreLow(StoreSize::Word)
+        | Mnemonic::Extend(Extend::WordZero | Extend::WordSign) => { Width::Bytes(2) }
         Mnemonic::Extend(Extend::LongSign) => Width::Bytes(4),
         Mnemonic::Jump | Mnemonic::Call => Width::Bytes(8),
         Mnemonic::MoveWide => Width::Bytes(16),

@@ -13,6 +13,6 @@ unfolding IsRegister
 returns-in-Some-clause-only c = λ x is.
     elim is as (λ _. Some (Plain (operand.Reg c.in-Some.reg)) ≡ Some x) [
       | inl one ↦ ap (λ (reg : Reg). Some (Plain (operand.Reg reg)))
-      (regs_apart c.in-Some.reg one.0 (c.in-Some.ensures.found ∙ sym one.1)) ∙ ap (λ (x : Resolved). Some x) (sym one.2)
+          (regs_apart c.in-Some.reg one.0 (c.in-Some.ensures.found ∙ sym one.1)) ∙ ap (λ (x : Resolved). Some x) (sym one.2)
       | inr xmm ↦ absurd (reg_no_xmm c.in-Some.reg xmm.0 (c.in-Some.ensures.found ∙ sym xmm.1))
     ]
