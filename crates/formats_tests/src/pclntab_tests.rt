@@ -138,9 +138,11 @@ fn equal_entries() -> [u8; 200] {
     let mut bytes = [0; 200];
     bytes[..128].copy_from_slice(&CAS[..128]);
     bytes[8] = 3;
-    for (at, number) in [(132, 28), (140, 28), (144, 16), (148, 28), (152, 32)] {
-        bytes[at] = number;
-    }
+    bytes[132] = 28;
+    bytes[140] = 28;
+    bytes[144] = 16;
+    bytes[148] = 28;
+    bytes[152] = 32;
     bytes[156..].copy_from_slice(&CAS[140..]);
     bytes
 }
