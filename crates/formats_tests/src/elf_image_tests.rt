@@ -1,3 +1,4 @@
+use crate::one_function::one_function;
 use byte_layout::{pad, push_part, push_u32, push_u64, push_words};
 use elf_image::{ImageNo, view};
 use std::alloc::Global;
@@ -19,6 +20,22 @@ const TABLE: &[u8] = b"\
       \0\0p.s\0\0\0\0\0\0\x02\x04 \x13\x1f\x01\0\x02\x18\0\x06\x0e\x02\x0a\0\0\0\0\0\x0c\0\0\0\
       \x20\0\0\0\0\0\0\0\0\0\0\0\0\0\0\0\0\0\0\0\x01\0\0\0\x08\0\0\0\x0b\0\0\0\0\0\0\0\0\0\0\0\
       \x01\0\0\0\0\x04\0\0";
+
+// The end of the image of one function in vectors/elf, from its symbol table on.
+const END: &[u8] = b"\
+      \0\0\0\0\0\0\0\0\0\0\0\0\0\0\0\0\0\0\0\0\0\0\0\0\x01\0\0\0\x12\0\x01\0\0\0@\0\0\0\0\0\
+      \x18\0\0\0\0\0\0\0\0main.p\0\0.text\0.gopclntab\0.data\0.symtab\0.strtab\0.shstrtab\0\0\
+      \0\0\0\0\0\0\0\0\0\0\0\0\0\0\0\0\0\0\0\0\0\0\0\0\0\0\0\0\0\0\0\0\0\0\0\0\0\0\0\0\0\0\0\0\
+      \0\0\0\0\0\0\0\0\0\0\0\0\0\0\0\0\0\0\0\0\0\0\0\0\0\x01\0\0\0\x01\0\0\0\x06\0\0\0\0\0\0\0\
+      \0\0@\0\0\0\0\0\0\x10\0\0\0\0\0\0 \0\0\0\0\0\0\0\0\0\0\0\0\0\0\0\x10\0\0\0\0\0\0\0\0\0\0\
+      \0\0\0\0\0\x07\0\0\0\x01\0\0\0\x02\0\0\0\0\0\0\0\0\x10@\0\0\0\0\0\0 \0\0\0\0\0\0\xa8\0\0\
+      \0\0\0\0\0\0\0\0\0\0\0\0\0\x08\0\0\0\0\0\0\0\0\0\0\0\0\0\0\0\x12\0\0\0\x01\0\0\0\x03\0\0\
+      \0\0\0\0\0\0 @\0\0\0\0\0\00\0\0\0\0\0\0\0\0\0\0\0\0\0\0\0\0\0\0\0\0\0\0\x10\0\0\0\0\0\0\
+      \0\0\0\0\0\0\0\0\0\x18\0\0\0\x02\0\0\0\0\0\0\0\0\0\0\0\0\0\0\0\0\0\0\0\00\0\0\0\0\0\00\0\
+      \0\0\0\0\0\0\x05\0\0\0\x01\0\0\0\x08\0\0\0\0\0\0\0\x18\0\0\0\0\0\0\0 \0\0\0\x03\0\0\0\0\
+      \0\0\0\0\0\0\0\0\0\0\0\0\0\0\000\0\0\0\0\0\0\x08\0\0\0\0\0\0\0\0\0\0\0\0\0\0\0\x01\0\0\0\
+      \0\0\0\0\0\0\0\0\0\0\0\0(\0\0\0\x03\0\0\0\0\0\0\0\0\0\0\0\0\0\0\0\0\0\0\080\0\0\0\0\0\02\
+      \0\0\0\0\0\0\0\0\0\0\0\0\0\0\0\x01\0\0\0\0\0\0\0\0\0\0\0\0\0\0\0";
 
 const BACK: &[u8] = b"\
       \0\0\0\0\0\0\0\0\0\0\0\0\0\0\0\0\0\0\0\0\0\0\0\0\x01\0\0\0\x02\0\x01\0\0\0@\0\0\0\0\0\
@@ -93,6 +110,26 @@ fn an_image_tells_its_parts(rt: HostRuntime) -> Result<(), Fail> {
     assert_eq!(rt; name, b"".as_slice());
     assert_eq!(rt; address, 0x30_0100);
     assert!(rt; image.outside(2).is_none());
+    Ok(())
+}
+
+// The function table of `main.p` is that of the other image; nothing compares the two.
+#[test]
+fn an_image_is_written(rt: HostRuntime) -> Result<(), Fail> {
+    let Ok(bytes) = one_function(rt.alloc(), &CODE, TABLE) else {
+        return Err(Fail::from("no memory"));
+    };
+    let bytes = bytes.as_slice();
+    assert_eq!(rt; bytes.len(), 12_848);
+    assert_eq!(rt; bytes.get(4096..4128).unwrap_or(&[]), CODE.as_slice());
+    assert!(rt; bytes.ends_with(END));
+    let Ok(image) = view(bytes) else {
+        return Err(Fail::from("no image"));
+    };
+    assert_eq!(rt; image.entry(), 0x40_0000);
+    assert_eq!(rt; image.table(), TABLE);
+    assert_eq!(rt; image.values().len(), 0);
+    assert!(rt; image.outside(0).is_none());
     Ok(())
 }
 

@@ -7,6 +7,8 @@ mod base_tests;
 #[cfg(test)]
 mod elf_image_tests;
 #[cfg(test)]
+mod one_function;
+#[cfg(test)]
 mod pclntab_tests;
 #[cfg(test)]
 mod pcvalue_tests;
