@@ -1,3 +1,6 @@
+ghost use Rattle.std.specs.Prelude.{◌≡◌, IfOk, IsBitSet};
+ghost use Rattle.goasm_base.specs.Statements.{noframe};
+
 use asm_target::{Part, Placed, Processor, SelectNo, Sequence, Site, Target, Width};
 use asm_target_linked::{FrameOp, Instr, Linked, Op};
 use goasm_base::{Function, List, Memory, Name, Operand, Pos, Stmt};
@@ -142,10 +145,14 @@ fn statements_become_one_instruction_or_are_refused(rt: HostRuntime) -> Result<(
     Ok(())
 }
 
-fn function(alloc: Global, flags: u32, locals: u32) -> Result<Function, Memory> {
+// A function without statements that has so many bytes of locals, and no flags.
+fn function(alloc: Global, locals: u32) -> Result<Function, Memory>
+    ensures locals { IfOk result (λ func. func.locals ≡ locals) }
+    ensures frameless { IfOk result (λ func. IsBitSet func.flags noframe → func.locals ≡ 0) }
+{
     Ok(Function {
         sym: 0,
-        flags,
+        flags: 0,
         locals,
         args: None,
         pos: Pos::default(),
@@ -161,8 +168,8 @@ fn frames_are_made_and_left(rt: HostRuntime) -> Result<(), Memory> {
         (1_048_568, Ok(1_048_576)),
         (1_048_576, Err(1_048_584u64)),
     ] {
-        let func = function(rt.alloc(), 0, locals)?;
-        let found = if locals % 8 == 0 {
+        let func = function(rt.alloc(), locals)?;
+        let found = if func.locals % 8 == 0 {
             frame_of::<Linked>(&func)
         } else {
             Err(0)
