@@ -1,3 +1,6 @@
+ghost use Rattle.std.specs.Prelude.{◌≡◌, ◌≤◌, ◌%◌};
+ghost use Rattle.asm_target.specs.Frames.{IsFrame};
+
 use amd64_select::{Amd64, Listed};
 use asm_target::{Few, FrameShape, Part, Picked, Placed, Processor, Sequence, Target, To, Width};
 use goasm_base::{Bytes, Memory, Text};
@@ -5,11 +8,27 @@ use std::alloc::Global;
 use std::process::Abort;
 use std::test::Fail;
 
-fn frame(total: u32) -> FrameShape {
+// The frame round so many bytes of locals.
+fn framed(locals: u32) -> FrameShape
+    requires whole { locals % 8 ≡ 0 }
+    requires most { locals ≤ 1048568 }
+    ensures { IsFrame 62 result }
+{
     FrameShape {
-        locals: if total > 8 { total - 8 } else { 0 },
-        total,
-        saves_bp: total > 0,
+        locals,
+        total: locals + 8,
+        saves_bp: true,
+    }
+}
+
+// The frame of so many bytes; none where there is no such frame.
+fn frame(total: u32) -> FrameShape
+    ensures { IsFrame 62 result }
+{
+    if total >= 8 && total % 8 == 0 && total <= 1_048_576 {
+        framed(total - 8)
+    } else {
+        FrameShape::default()
     }
 }
 
@@ -36,7 +55,6 @@ fn frames_are_entered_and_left(rt: HostRuntime) -> Result<(), Fail> {
         (0, "", ""),
         (8, "4883ec0848892c24488d2c24", "488b2c244883c408"),
         (16, "4883ec1048896c2408488d6c2408", "488b6c24084883c410"),
-        (128, "4883c480", ""),
         (
             8192,
             "4881ec002000004889ac24f81f0000488dac24f81f0000",
@@ -48,20 +66,20 @@ fn frames_are_entered_and_left(rt: HostRuntime) -> Result<(), Fail> {
             "488bac24f8ff0f004881c400001000",
         ),
     ] {
-        if total != 128 {
-            let code = Amd64::enter(frame(total));
-            assert_eq!(rt;
-                hex::encode(rt.alloc(), bytes_of(rt.alloc(), &code)?.as_slice())?.as_str(),
-                entry,
-                "{total}"
-            );
-            let code = Amd64::leave(frame(total));
-            assert_eq!(rt;
-                hex::encode(rt.alloc(), bytes_of(rt.alloc(), &code)?.as_slice())?.as_str(),
-                exit,
-                "{total}"
-            );
-        }
+        let frame = frame(total);
+        assert_eq!(rt; frame.total, total);
+        let code = Amd64::enter(frame);
+        assert_eq!(rt;
+            hex::encode(rt.alloc(), bytes_of(rt.alloc(), &code)?.as_slice())?.as_str(),
+            entry,
+            "{total}"
+        );
+        let code = Amd64::leave(frame);
+        assert_eq!(rt;
+            hex::encode(rt.alloc(), bytes_of(rt.alloc(), &code)?.as_slice())?.as_str(),
+            exit,
+            "{total}"
+        );
     }
     Ok(())
 }
@@ -104,6 +122,7 @@ fn checks_are_of_three_kinds(rt: HostRuntime) -> Result<(), Fail> {
             "e800000000e900000000"
         );
         assert!(rt; !guard.in_place);
+        assert!(rt; guard.block.len() == 2);
         let call = guard.block.get(0).refer;
         assert!(rt; call.is_some_and(|refer| refer.to == To::Grow && refer.part == Part::Whole));
     }
@@ -156,6 +175,7 @@ fn jumps_have_two_forms(rt: HostRuntime) -> Result<(), Fail> {
         match Amd64::read(&bytes) {
             Some((instr, _)) => {
                 let form = Amd64::forms(&instr, 0);
+                assert!(rt; form.len() == 1);
                 assert_eq!(rt;
                     hex::encode(rt.alloc(), Amd64::spell(&form.get(0)).as_slice())?.as_str(),
                     short
@@ -172,6 +192,7 @@ fn jumps_have_two_forms(rt: HostRuntime) -> Result<(), Fail> {
                 }
                 assert!(rt; Amd64::aim(&form.get(0), Part::High, 0x1000, 0x1080).is_none());
                 let form = Amd64::forms(&instr, 1);
+                assert!(rt; form.len() == 1);
                 assert_eq!(rt;
                     hex::encode(rt.alloc(), Amd64::spell(&form.get(0)).as_slice())?.as_str(),
                     long

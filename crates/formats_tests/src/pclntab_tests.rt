@@ -2,7 +2,7 @@ ghost use Rattle.std.specs.Prelude.{◌≡◌, [], ◌∷◌, IfOk};
 ghost use Rattle.pclntab.specs.Worked as worked;
 
 use goasm_base::{Bytes, List, Memory, Name};
-use pclntab::{FuncPart, Table, TableNo, TableParts, write};
+use pclntab::{Func, FuncPart, Table, TableNo, TableParts, write};
 use pcvalue::{Answer, Run};
 use std::alloc::Global;
 use std::process::Abort;
@@ -91,6 +91,25 @@ fn old_form() -> [u8; 180] {
     bytes
 }
 
+// What a table tells of an address: the function, and its depth, line and file there.
+#[derive(Drop)]
+struct Told<'a> {
+    func: Func<'a>,
+    depth: Answer,
+    line: Answer,
+    file: &'a [u8],
+}
+
+fn look_up<'a>(table: &Table<'a>, pc: u64) -> Option<Told<'a>> {
+    let func = table.find(pc)?;
+    Some(Told {
+        depth: func.depth(pc),
+        line: func.line(pc),
+        file: func.file(pc).unwrap_or(b"?"),
+        func,
+    })
+}
+
 // Tests that the two tables answer alike at an address of their one function.
 fn expect_alike<R: Abort>(rt: &R, one: &[u8], other: &[u8], pc: u64) -> Result<(), Fail> {
     assert!(rt; one.len() < 1 << 32 && other.len() < 1 << 32);
@@ -98,19 +117,16 @@ fn expect_alike<R: Abort>(rt: &R, one: &[u8], other: &[u8], pc: u64) -> Result<(
         return Err(Fail::from("no table"));
     };
     assert_eq!(rt; one.count(), other.count());
-    let one = one.find(pc).ok_or("no function")?;
-    let other = other.find(pc).ok_or("no function")?;
-    assert_eq!(rt; one.name(), other.name());
-    assert_eq!(rt; one.entry(), other.entry());
-    assert_eq!(rt; one.end(), other.end());
-    assert_eq!(rt; one.args(), other.args());
-    assert_eq!(rt; one.flags(), other.flags());
-    assert_eq!(rt; one.depth(pc), other.depth(pc));
-    assert_eq!(rt; one.line(pc), other.line(pc));
-    assert_eq!(rt;
-        one.file(pc).unwrap_or(b"?"),
-        other.file(pc).unwrap_or(b"?")
-    );
+    let one = look_up(&one, pc).ok_or("no function")?;
+    let other = look_up(&other, pc).ok_or("no function")?;
+    assert_eq!(rt; one.func.name(), other.func.name());
+    assert_eq!(rt; one.func.entry(), other.func.entry());
+    assert_eq!(rt; one.func.end(), other.func.end());
+    assert_eq!(rt; one.func.args(), other.func.args());
+    assert_eq!(rt; one.func.flags(), other.func.flags());
+    assert_eq!(rt; one.depth, other.depth);
+    assert_eq!(rt; one.line, other.line);
+    assert_eq!(rt; one.file, other.file);
     Ok(())
 }
 
