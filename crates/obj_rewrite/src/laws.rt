@@ -26,4 +26,9 @@ pub fn one_answer<T: Target>()
         IsRefusedAt rules func frame (T.check frame) (T.entry frame) place why
         → IsRefusedAt rules func frame (T.check frame) (T.entry frame) other reason
         → (place ≡ other) × (why ≡ reason) }
+    ensures large { (func : Function) (body : Body T.Instr) (place other : Pos) (total : ℕ) (why : SelectNo)
+        → let frame = frame_for T.MACHINE func in let rules = rules_of T.instructions T.SHAPE T.begins T.selection frame in
+        IsTooLarge T.MACHINE func place total
+        → (¬ IsRewritten rules func frame (T.check frame) (T.entry frame) body)
+        × (¬ IsRefusedAt rules func frame (T.check frame) (T.entry frame) other why) }
 {}
