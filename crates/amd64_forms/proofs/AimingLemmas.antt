@@ -1,15 +1,10 @@
 -- What becomes of an instruction whose distance changes.
 use Rattle.std.specs.Prelude.{◌&&◌, is_some, if◌then◌else◌}
-use Rattle.std.proofs.Common.{◌≡◌, ℕ, ℤ, pos, Bool, true, false, IsTrue, Option, Some, None, refl, sym, ◌∙◌, ap, rules, arith}
+use Rattle.std.proofs.Common.{◌≡◌, ℤ, false, IsTrue, Some, None, refl, ◌∙◌, rules}
 use Rattle.std.specs.Option.{option_map}
 use Rattle.machine_effect.specs.Numbers.{fits as fits_bits}
-use Rattle.amd64_table.specs.declared.memory.Mem.{Mem}
-use Rattle.amd64_table.specs.declared.memory.Mem.TheVariants as memory
-use Rattle.amd64_table.specs.declared.memory.Rm.{Rm}
-use Rattle.amd64_table.specs.declared.memory.Rm.TheVariants as rms
 use Rattle.amd64_table.specs.declared.instr.Instr.{Instr}
-use Rattle.amd64_table.specs.declared.instr.Instr.TheVariants as instr
-use Rattle.amd64_table.specs.Fits.{fits, fits_rm, fits_mem, fits_lock, is_quad_constant}
+use Rattle.amd64_table.specs.Fits.{fits, fits_rm, fits_mem, fits_lock}
 use Rattle.amd64_forms.specs.Aiming.{place_in, symbol_distance, distance_of, distance_bits, is_branch, aimed, aimed_by}
 
 -- only the last distance counts

@@ -1,11 +1,8 @@
 -- No name is that of two things.
-use Rattle.std.proofs.Common.{◌≡◌, ℕ, List, refl, rules, codes}
+use Rattle.std.proofs.Common.{◌≡◌, rules, codes}
 use Rattle.amd64_table.specs.declared.reg.Reg.{Reg}
 use Rattle.amd64_table.specs.declared.xmm.Xmm.{Xmm}
-use Rattle.amd64_table.specs.declared.mnemonic.Mnemonic.{Mnemonic}
 use Rattle.amd64_table.specs.Registers.{reg_text, xmm_text}
-use Rattle.amd64_table.specs.Mnemonics.{mnemonic_text, stem_of, width_of, cc_of, width_text, condition_text, arithmetic_stem, extend_stem, unary_stem, mul_div_stem, rm_reg_stem, shift_stem, plain_stem}
-use Rattle.amd64_table.specs.Conditions.{cc_text}
 use Rattle.amd64_forms.specs.declared.alias.Alias.{Alias}
 use Rattle.amd64_forms.specs.Names.{alias_text}
 

@@ -1,6 +1,6 @@
 -- What a statement becomes is listed, and holds an address where one of its operands does.
 use Rattle.std.specs.Prelude.{◌||◌, is_some}
-use Rattle.std.proofs.Common.{◌≡◌, ℕ, ℤ, pos, Bool, true, false, IsTrue, Option, Some, None, refl, sym, ◌∙◌, ap, subst, rules, arith}
+use Rattle.std.proofs.Common.{◌≡◌, Bool, true, false, IsTrue, Option, Some, None, refl, ◌∙◌, ap, rules}
 use Rattle.amd64_table.specs.declared.condition.Cc.{Cc}
 use Rattle.amd64_table.specs.declared.memory.Mem.{Mem}
 use Rattle.amd64_table.specs.declared.memory.Mem.TheVariants as memory
@@ -9,16 +9,14 @@ use Rattle.amd64_table.specs.declared.mnemonic.Mnemonic.{Mnemonic}
 use Rattle.amd64_table.specs.declared.operand.Operand.{Operand}
 use Rattle.amd64_table.specs.declared.operand.Operand.TheVariants as operand
 use Rattle.amd64_table.specs.declared.instr.Instr.{Instr}
-use Rattle.amd64_table.specs.declared.instr.Instr.TheVariants as instr
 use Rattle.amd64_table.specs.Fits.{fits}
 use Rattle.amd64_table.specs.Texts.{operands_of, reg_rm_operands, mem_reg_operands}
 use Rattle.amd64_forms.specs.Aiming.{distance_of, place_in}
-use Rattle.amd64_forms.specs.Listed.{Writes}
 use Rattle.amd64_forms.specs.declared.rows.Spoken.{Spoken}
 use Rattle.amd64_forms.specs.declared.rows.Spoken.TheVariants as spoken
 use Rattle.amd64_forms.specs.declared.rows.Resolved.{Resolved}
 use Rattle.amd64_forms.specs.declared.rows.Resolved.TheVariants.{Plain, Address}
-use Rattle.amd64_forms.specs.Rows.{Written, WritesOf, Becomes, stands, adjusted}
+use Rattle.amd64_forms.specs.Rows.{Written, WritesOf, Becomes, stands}
 
 abbrev pub is_symbol : Mem → Bool
 is_symbol (memory.Symbol distance) = true

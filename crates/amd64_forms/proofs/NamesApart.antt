@@ -1,5 +1,5 @@
 -- No name of the instruction list is that of two instructions, or is another name.
-use Rattle.std.proofs.Common.{◌≡◌, ◌⊎◌, ℕ, List, [], ◌∷◌, refl, sym, ap, rules, arith, codes, inl, inr}
+use Rattle.std.proofs.Common.{◌≡◌, ◌⊎◌, ℕ, List, [], ◌∷◌, sym, ap, rules, arith, inl, inr}
 use Rattle.amd64_table.specs.declared.condition.Cc.{Cc}
 use Rattle.amd64_table.specs.declared.width.Width.{Width}
 use Rattle.amd64_table.specs.declared.width.Width.TheVariants.{Q, L}

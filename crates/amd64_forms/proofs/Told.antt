@@ -1,15 +1,14 @@
 -- An instruction is told by its name, LOCK and operands.
-use Rattle.std.proofs.Common.{◌≡◌, ℕ, ℤ, pos, negsuc, Bool, true, false, IsTrue, Option, Some, None, refl, sym, ◌∙◌, ap, subst, rules, arith}
+use Rattle.std.proofs.Common.{◌≡◌, ℕ, ℤ, pos, negsuc, Bool, false, Option, Some, None, sym, ◌∙◌, rules}
 use Rattle.amd64_table.specs.declared.memory.Rm.{Rm}
 use Rattle.amd64_table.specs.declared.memory.Rm.TheVariants as rms
-use Rattle.amd64_table.specs.declared.reg.Reg.TheVariants.{Ax, Cx}
+use Rattle.amd64_table.specs.declared.reg.Reg.TheVariants.{Ax}
 use Rattle.amd64_table.specs.declared.width.Width.TheVariants.{Q, L}
 use Rattle.amd64_table.specs.declared.op.Indirect.TheVariants as indirect
 use Rattle.amd64_table.specs.declared.op.MemReg.TheVariants as mem_reg
 use Rattle.amd64_table.specs.declared.op.Near.TheVariants as near
 use Rattle.amd64_table.specs.declared.op.Plain.TheVariants as plain
 use Rattle.amd64_table.specs.declared.op.RegRm.TheVariants as reg_rm
-use Rattle.amd64_table.specs.declared.op.StoreSize.TheVariants as size
 use Rattle.amd64_table.specs.declared.mnemonic.Mnemonic.{Mnemonic}
 use Rattle.amd64_table.specs.declared.mnemonic.Mnemonic.TheVariants as name
 use Rattle.amd64_table.specs.declared.operand.Operand.{Operand}

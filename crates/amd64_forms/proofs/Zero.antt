@@ -1,6 +1,6 @@
 -- An instruction and a statement stay listed where their numbers become 0: other numbers help exactly where these do.
 use Rattle.std.specs.Prelude.{if◌then◌else◌}
-use Rattle.std.proofs.Common.{◌≡◌, ℕ, zero, suc, ℤ, pos, negsuc, Bool, true, false, IsTrue, Option, Some, None, refl, sym, ◌∙◌, ap, subst, rules, arith}
+use Rattle.std.proofs.Common.{◌≡◌, zero, suc, ℤ, pos, negsuc, Bool, true, false, IsTrue, Option, Some, None, refl, sym, ◌∙◌, ap, subst, rules}
 use Rattle.std.specs.Option.{option_map}
 use Rattle.machine_effect.specs.Numbers.{fits as fits_bits}
 use Rattle.amd64_table.specs.declared.condition.Cc.{Cc}

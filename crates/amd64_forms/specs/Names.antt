@@ -1,7 +1,5 @@
 -- The names that statements begin with beside those of the instruction list, and what each stands for.
 use Rattle.std.specs.Prelude.{◌≡◌, ◌⊎◌, ℕ, List, codes}
-use Rattle.amd64_table.specs.declared.mnemonic.Mnemonic.{Mnemonic}
-use Rattle.amd64_table.specs.Mnemonics.{mnemonic_text}
 use Rattle.amd64_forms.specs.declared.alias.Alias.{Alias}
 use Rattle.amd64_forms.specs.declared.alias.Alias.TheVariants as alias
 

@@ -1,5 +1,5 @@
 -- What statements stand for: the rows of selection, one a line.
-use Rattle.std.specs.Prelude.{◌≡◌, ℕ, ℤ, pos, negsuc, suc, ◌-◌, ◌^◌, Bool, nat_lt, Option, Some, None, if◌then◌else◌}
+use Rattle.std.specs.Prelude.{◌≡◌, ℤ, pos, negsuc, suc, ◌-◌, ◌^◌, Bool, nat_lt, Option, Some, None, if◌then◌else◌}
 use Rattle.machine_effect.specs.Numbers.{fits as fits_bits}
 use Rattle.amd64_table.specs.declared.condition.Cc.TheVariants as cc
 use Rattle.amd64_table.specs.declared.width.Width.TheVariants.{Q, L}

@@ -1,14 +1,13 @@
 -- A statement becomes instructions with some other numbers exactly where it does with eased ones.
 use Rattle.std.specs.Prelude.{map, if◌then◌else◌}
-use Rattle.std.proofs.Common.{◌≡◌, ◌⊎◌, ℕ, zero, suc, ℤ, pos, negsuc, ◌+ℤ◌, ◌-ℤ◌, ◌+◌, Bool, true, false, IsTrue, List, [], ◌∷◌, Option, Some, None, refl, sym, ◌∙◌, ap, subst, arith, rules, inl, inr}
+use Rattle.std.proofs.Common.{◌≡◌, ◌⊎◌, ℕ, zero, ℤ, pos, ◌+ℤ◌, ◌-ℤ◌, ◌+◌, Bool, true, false, List, [], ◌∷◌, Option, Some, None, refl, sym, ◌∙◌, ap, subst, arith, inl, inr}
 use Rattle.std.proofs.lemmas.Int.{ints}
-use Rattle.machine_effect.specs.Numbers.{fits as fits_bits}
 use Rattle.goasm_base.specs.declared.statement.Operand.{Operand}
 use Rattle.goasm_base.specs.declared.statement.Operand.TheVariants as written
 use Rattle.goasm_base.specs.declared.statement.Stmt.{Stmt}
 use Rattle.asm_target.specs.declared.frame.Site.{Site}
 use Rattle.asm_target.specs.declared.refer.Picked.{Picked}
-use Rattle.asm_target.specs.Selection.{CouldBe, DiffersInNumbers, IsSelected, without_numbers}
+use Rattle.asm_target.specs.Selection.{CouldBe, IsSelected, without_numbers}
 use Rattle.amd64_table.specs.declared.reg.Reg.TheVariants.{Sp}
 use Rattle.amd64_table.specs.declared.memory.Mem.TheVariants as memory
 use Rattle.amd64_table.specs.declared.memory.Scale.TheVariants.{One}
@@ -18,7 +17,7 @@ use Rattle.amd64_table.specs.Operands.{factor_of}
 use Rattle.amd64_forms.specs.declared.rows.Spoken.{Spoken}
 use Rattle.amd64_forms.specs.declared.rows.Spoken.TheVariants as spoken
 use Rattle.amd64_forms.specs.declared.rows.Resolved.{Resolved}
-use Rattle.amd64_forms.specs.declared.rows.Resolved.TheVariants.{Plain, Address}
+use Rattle.amd64_forms.specs.declared.rows.Resolved.TheVariants.{Plain}
 use Rattle.amd64_forms.specs.Rows.{Becomes as BecomesOne, stands}
 use Rattle.amd64_forms.specs.Words.{Says}
 use Rattle.amd64_forms.proofs.Zero.{becomes-zero, zero_option, zero_resolved}

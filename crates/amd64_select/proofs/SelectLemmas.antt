@@ -1,6 +1,6 @@
 -- What a statement becomes, by what is picked for it.
 use Rattle.std.specs.Prelude.{map}
-use Rattle.std.proofs.Common.{◌≡◌, ◌⊎◌, Bool, true, false, List, [], ◌∷◌, Option, Some, None, refl, sym, ◌∙◌, ap, subst, inl, inr}
+use Rattle.std.proofs.Common.{◌≡◌, ◌⊎◌, true, false, List, [], ◌∷◌, None, refl, sym, ◌∙◌, ap, subst, inl, inr}
 use Rattle.goasm_base.specs.declared.statement.Operand.{Operand}
 use Rattle.goasm_base.specs.declared.statement.Stmt.{Stmt}
 use Rattle.asm_target.specs.declared.frame.Site.{Site}

@@ -1,6 +1,6 @@
 -- A name has the width of what it says, and another text has none.
 use Rattle.std.specs.Prelude.{map, if◌then◌else◌}
-use Rattle.std.proofs.Common.{◌≡◌, ◌⊎◌, ℕ, ◌==◌, ◌&&◌, Bool, true, false, List, [], ◌∷◌, ◌++◌, refl, sym, ◌∙◌, ap, subst, arith, rules, inl, inr}
+use Rattle.std.proofs.Common.{◌≡◌, ◌⊎◌, ℕ, ◌==◌, ◌&&◌, Bool, true, false, List, [], ◌∷◌, ◌++◌, refl, sym, ◌∙◌, ap, arith, rules, inl, inr}
 use Rattle.std.proofs.lemmas.Bool.{and_parts}
 use Rattle.std.proofs.lemmas.Bool.Decides.{nat_tests}
 use Rattle.asm_target.specs.declared.width.Width.{Width}
@@ -26,7 +26,7 @@ use Rattle.amd64_forms.specs.declared.rows.Spoken.{Spoken}
 use Rattle.amd64_forms.specs.Names.{alias_text}
 use Rattle.amd64_forms.specs.Rows.{meaning_of}
 use Rattle.amd64_forms.specs.Words.{Says}
-use Rattle.amd64_select.specs.Widths.{aliases, names, rows, same_text, spoken_width, width_among, width_of, width_of_text}
+use Rattle.amd64_select.specs.Widths.{aliases, names, same_text, spoken_width, width_among, width_of, width_of_text}
 
 mnemonic_width : (m : Mnemonic) → width_of_text (mnemonic_text m) ≡ width_of m
 unfolding width_of_text width_of mnemonic_text stem_of letter_of cc_of width_text condition_text arithmetic_stem extend_stem unary_stem mul_div_stem rm_reg_stem shift_stem plain_stem cc_text alias_text meaning_of

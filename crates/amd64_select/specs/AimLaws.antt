@@ -1,46 +1,29 @@
 -- The laws of forms and aims, for amd64.
-use Rattle.std.specs.Prelude.{◌↔◌, ◌&&◌, is_some, option_map, All, IfSome, if◌then◌else◌}
-use Rattle.std.specs.List.{flat_map}
-use Rattle.std.proofs.Common.{◌≡◌, ℕ, zero, suc, ℤ, pos, negsuc, ◌+ℤ◌, ◌-ℤ◌, ◌≤ℤ◌, ◌+◌, ◌-◌, ◌*◌, ◌%◌, ◌^◌, ◌<◌, ◌≤◌, Bool, true, false, IsTrue, List, [], ◌∷◌, ◌++◌, length, Option, Some, None, refl, sym, ◌∙◌, ap, subst, arith, rules, inl, inr}
-use Rattle.std.proofs.lemmas.Int.{ints}
+use Rattle.std.specs.Prelude.{◌↔◌, ◌&&◌, is_some, option_map, IfSome, if◌then◌else◌}
+use Rattle.std.proofs.Common.{◌≡◌, ℕ, ℤ, pos, ◌+ℤ◌, ◌-ℤ◌, ◌≤ℤ◌, ◌+◌, ◌-◌, ◌*◌, ◌%◌, ◌^◌, ◌<◌, ◌≤◌, Bool, true, false, IsTrue, List, [], ◌∷◌, ◌++◌, length, Option, Some, None, refl, sym, ◌∙◌, ap, subst, rules}
 use Rattle.std.proofs.lemmas.List.{length-append}
-use Rattle.machine_effect.specs.declared.next.Next.{Next}
-use Rattle.machine_effect.specs.declared.next.Next.TheVariants as next
-use Rattle.machine_effect.specs.Flow.{flow_of}
-use Rattle.machine_effect.specs.Numbers.{fits as fits_bits, moved_by, unsigned}
-use Rattle.machine_effect.specs.Shapes.{amd64_shape}
-use Rattle.asm_target.specs.declared.refer.Part.{Part}
-use Rattle.asm_target.specs.declared.refer.Part.TheVariants.{Whole, High, Low}
+use Rattle.machine_effect.specs.Numbers.{fits as fits_bits, moved_by}
+use Rattle.asm_target.specs.declared.refer.Part.TheVariants.{Whole}
 use Rattle.asm_target.specs.Aiming as aim
-use Rattle.asm_target.specs.FlowFunction.{jump_goal, call_goal}
-use Rattle.amd64_table.specs.declared.condition.Cc.{Cc}
 use Rattle.amd64_table.specs.declared.memory.Mem.TheVariants as memory
 use Rattle.amd64_table.specs.declared.memory.Rm.TheVariants as rms
 use Rattle.amd64_table.specs.declared.op.Near.{Near}
-use Rattle.amd64_table.specs.declared.op.Near.TheVariants as near
-use Rattle.amd64_table.specs.declared.op.Indirect.TheVariants as indirect
-use Rattle.amd64_table.specs.declared.op.Plain.TheVariants as plain
 use Rattle.amd64_table.specs.declared.op.Extend.TheVariants as extend
 use Rattle.amd64_table.specs.declared.op.StoreSize.TheVariants as size
 use Rattle.amd64_table.specs.declared.instr.Instr.{Instr}
 use Rattle.amd64_table.specs.declared.instr.Instr.TheVariants as instr
 use Rattle.amd64_table.specs.Fits.{fits}
-use Rattle.amd64_table.specs.Flows.{move_of, next_of}
-use Rattle.amd64_table.specs.Operands.{rm_atom}
-use Rattle.amd64_table.proofs.MoveLemmas.{flow_moves}
-use Rattle.amd64_table.proofs.NextLemmas.{nexts}
 use Rattle.amd64_code.specs.Constants.{long_of, byte_of, short_of}
 use Rattle.amd64_code.specs.declared.head.Opcode.TheVariants.{One}
-use Rattle.amd64_code.specs.Heads.{head_bytes, rex_bytes}
+use Rattle.amd64_code.specs.Heads.{head_bytes}
 use Rattle.amd64_code.specs.Opcodes.{arithmetic_digit, shift_digit}
 use Rattle.amd64_table.specs.Operands.{is_quad}
 use Rattle.amd64_code.specs.InstructionSet.{amd64, Fits, end_of}
 use Rattle.amd64_code.specs.ModRm.{fields, mem_bytes, rm_bytes}
 use Rattle.amd64_code.specs.Spelling.{spelling_of, rm_x, rm_b, store_low_head, extend_head, rex_of, plain_head, locked_head, const_opcode}
-use Rattle.amd64_code.proofs.LengthLaws.{bounded}
-use Rattle.amd64_forms.specs.Aiming.{forms_of, aimed, distance_of, distance_bits, aimed_by, place_in}
+use Rattle.amd64_forms.specs.Aiming.{aimed, distance_of, distance_bits, aimed_by}
 use Rattle.amd64_forms.proofs.AimingLemmas.{aimed_twice, distance_aimed, aimed_same, bits_aimed, distance_fits, fits_aimed}
-use Rattle.amd64_select.specs.Aims.{aiming, held}
+use Rattle.amd64_select.specs.Aims.{aiming}
 
 -- lists with fronts of one length, or with tails
 tails : (front one other : List ℕ) → length one ≡ length other → length (front ++ one) ≡ length (front ++ other)

@@ -1,5 +1,5 @@
 -- The forms of amd64's instructions, and the addresses that they hold.
-use Rattle.std.specs.Prelude.{ℕ, ℤ, pos, List, Option, Some, None, is_some}
+use Rattle.std.specs.Prelude.{ℕ, pos, Option, None, is_some}
 use Rattle.std.specs.Option.{option_map}
 use Rattle.machine_effect.specs.Numbers.{moved_by}
 use Rattle.asm_target.specs.declared.refer.Part.{Part}

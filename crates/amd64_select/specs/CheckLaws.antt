@@ -1,6 +1,6 @@
 -- The laws of checks, for amd64.
 use Rattle.std.specs.Prelude.{All, nat_le, if◌then◌else◌}
-use Rattle.std.proofs.Common.{◌≡◌, ℕ, zero, suc, ℤ, pos, negsuc, ◌+ℤ◌, ◌-ℤ◌, ◌+◌, ◌-◌, ◌<◌, ◌≤◌, Bool, true, false, IsTrue, List, [], ◌∷◌, length, Option, Some, None, refl, sym, ◌∙◌, ap, subst, arith, rules}
+use Rattle.std.proofs.Common.{◌≡◌, ℕ, zero, suc, ℤ, pos, ◌+ℤ◌, ◌-ℤ◌, ◌+◌, ◌-◌, ◌<◌, ◌≤◌, Bool, true, false, IsTrue, [], ◌∷◌, length, Some, None, refl, ◌∙◌, subst, arith, rules}
 use Rattle.std.proofs.lemmas.List.Elements.{All-nil, All-cons}
 use Rattle.machine_effect.specs.declared.flow.SpMove.TheVariants.{Keep}
 use Rattle.machine_effect.specs.declared.next.Next.TheVariants as next
@@ -15,11 +15,12 @@ use Rattle.asm_target.specs.declared.refer.To.{To}
 use Rattle.asm_target.specs.declared.refer.To.TheVariants as to
 use Rattle.asm_target.specs.Aiming as aim
 use Rattle.asm_target.specs.Frames.{IsFrame}
+use Rattle.asm_target.specs.References.{IsAround, RefersTo, StaysAround}
 use Rattle.asm_target.specs.Standing as standing
 use Rattle.asm_target.proofs.CheckLemmas.{IsHeadPick, IsMadeSo}
 use Rattle.asm_target.proofs.CheckLemmas.IsHeadPick.{goes_on, branches}
 use Rattle.asm_target.proofs.CheckLaws.{unlinked_check}
-use Rattle.asm_target.proofs.GuardLemmas.{GuardLaws, IsBranchPick, IsQuietPick}
+use Rattle.asm_target.proofs.GuardLemmas.{GuardLaws}
 use Rattle.amd64_table.specs.declared.condition.Cc.{Cc}
 use Rattle.amd64_table.specs.declared.condition.Cc.TheVariants.{Carry, CarryOrZero}
 use Rattle.amd64_table.specs.declared.reg.Reg.{Reg}
@@ -41,11 +42,11 @@ use Rattle.amd64_table.proofs.MoveLemmas.{flow_moves}
 use Rattle.amd64_table.proofs.NextLemmas.{nexts}
 use Rattle.amd64_code.specs.InstructionSet.{amd64, Fits, end_of}
 use Rattle.amd64_code.proofs.LengthLaws.{bounded}
-use Rattle.amd64_forms.specs.Aiming.{distance_of, place_in}
+use Rattle.amd64_forms.specs.Aiming.{distance_of}
 use Rattle.amd64_select.specs.Aims.{aiming}
 use Rattle.amd64_select.specs.AimLaws.{same_lengths}
 use Rattle.amd64_select.specs.FrameLaws.{plain, small}
-use Rattle.amd64_select.specs.Frames.{by_constant, check_of, checked, compared, going, growing, large_checked, load_g, page_checked, simple}
+use Rattle.amd64_select.specs.Frames.{by_constant, check_of, checked, compared, going, large_checked, load_g, page_checked, simple}
 use Rattle.amd64_select.specs.JumpLaws.{formed, holds_goals}
 use Rattle.amd64_select.specs.Laws.{links, only_goes}
 
@@ -232,3 +233,27 @@ few_checked n k = by (nat_le n 128) (nat_le n 4096)
     by true page = omega arith
     by false true = omega arith
     by false false = omega arith
+
+-- a check goes to its block, and the block to the routine and to the function's entry
+
+simple_around : (i : Instr) → RefersTo (IsAround false) (simple i)
+simple_around i refer is = absurd (cc)
+
+going_around : (op : Near) (goal : To) → IsAround false goal → RefersTo (IsAround false) (going op goal)
+going_around op goal around refer is =
+    let same : record { to = goal; part = Whole } ≡ refer = cc in
+    subst (λ (r : Refer). IsAround false r.to) same around
+
+pub stays_around : (frame : FrameShape) → IsFrame 62 frame → StaysAround (check_of frame)
+stays_around frame is =
+    let k = frame.total - 128 in
+    let jump : Picked Instr = going near.Jmp to.Entry in
+    record {
+      head = all_checked (RefersTo (IsAround false)) (simple_around (instr.LoadTls Cx))
+          (λ reg. simple_around (instr.MemReg mem_reg.Cmp Q (Base Cx (pos 16)) reg))
+          (λ code. going_around (near.If code) to.Block tt) (simple_around (instr.RegRm reg_rm.Mov Q Sp (rms.Reg Ax))) k
+          (simple_around (instr.Lea (Base Sp (pos 0 -ℤ pos k)) Ax)) (simple_around (by_constant Sub k Ax)) frame.total;
+      block = All-cons (RefersTo (IsAround false)) (going near.Call to.Grow) (jump ∷ []) (going_around near.Call to.Grow tt)
+          (All-cons (RefersTo (IsAround false)) jump [] (going_around near.Jmp to.Entry tt) (All-nil (RefersTo (IsAround false))));
+      some = omega arith;
+    }

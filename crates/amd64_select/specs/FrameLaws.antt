@@ -1,9 +1,8 @@
 -- The laws of frames, for amd64.
 use Rattle.std.specs.Prelude.{◌⊎◌, All}
-use Rattle.std.proofs.Common.{◌≡◌, ℕ, zero, suc, ℤ, pos, ◌+ℤ◌, ◌-ℤ◌, ◌+◌, ◌-◌, ◌*◌, ◌/◌, ◌%◌, ◌^◌, ◌<◌, ◌≤◌, Bool, true, false, IsTrue, List, [], ◌∷◌, length, refl, sym, ◌∙◌, ap, subst, arith, rules, inl, inr}
+use Rattle.std.proofs.Common.{◌≡◌, ℕ, zero, suc, ℤ, pos, ◌+ℤ◌, ◌-ℤ◌, ◌+◌, ◌-◌, ◌*◌, ◌/◌, ◌%◌, ◌^◌, ◌<◌, ◌≤◌, false, IsTrue, List, [], ◌∷◌, length, refl, ◌∙◌, ap, arith, rules, inl, inr}
 use Rattle.std.proofs.lemmas.Int.{ints}
 use Rattle.machine_effect.specs.declared.next.Next.TheVariants as next
-use Rattle.machine_effect.specs.Flow.{flow_of}
 use Rattle.machine_effect.specs.Numbers.{fits as fits_bits}
 use Rattle.machine_effect.specs.Shapes.{amd64_shape}
 use Rattle.asm_target.specs.declared.frame.FrameShape.{FrameShape}
@@ -137,6 +136,18 @@ fits_exit frame is = by frame.total is.most
     by (suc n) most =
         let restored = fits_restore frame.locals (locals_most frame is) in
         let added = (fits_by (suc n) most).1 in
+        search rules
+
+-- so is what enters one
+pub fits_entry : (frame : FrameShape) → IsFrame 62 frame → All Fits (entry_of frame)
+fits_entry frame is = by frame.total is.most
+  where
+    by : (n : ℕ) → n ≤ 1048576 → All Fits (entered n frame.locals)
+    by zero most = search rules
+    by (suc n) most =
+        let taken = (fits_by (suc n) most).0 in
+        let saved = fits_save frame.locals (locals_most frame is) in
+        let pointed = fits_point frame.locals (locals_most frame is) in
         search rules
 
 pub few_left : (frame : FrameShape) → length (exit_of frame) ≤ 2

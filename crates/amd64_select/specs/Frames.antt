@@ -1,12 +1,11 @@
 -- How functions enter and leave their frames, and how they check that the stack has room.
-use Rattle.std.specs.Prelude.{ℕ, zero, suc, ℤ, pos, negsuc, ◌-ℤ◌, ◌+◌, ◌-◌, Bool, true, false, List, [], ◌∷◌, Option, Some, None, nat_le, if◌then◌else◌}
+use Rattle.std.specs.Prelude.{ℕ, zero, suc, ℤ, pos, ◌-ℤ◌, ◌+◌, ◌-◌, false, List, [], ◌∷◌, Some, None, nat_le, if◌then◌else◌}
 use Rattle.asm_target.specs.declared.frame.FrameShape.{FrameShape}
 use Rattle.asm_target.specs.declared.frame.Guard.{Guard}
 use Rattle.asm_target.specs.declared.refer.Part.TheVariants.{Whole}
 use Rattle.asm_target.specs.declared.refer.Picked.{Picked}
 use Rattle.asm_target.specs.declared.refer.To.{To}
 use Rattle.asm_target.specs.declared.refer.To.TheVariants as to
-use Rattle.amd64_table.specs.declared.condition.Cc.{Cc}
 use Rattle.amd64_table.specs.declared.condition.Cc.TheVariants.{Carry, CarryOrZero}
 use Rattle.amd64_table.specs.declared.reg.Reg.{Reg}
 use Rattle.amd64_table.specs.declared.reg.Reg.TheVariants.{Ax, Cx, Sp, Bp}

@@ -1,14 +1,9 @@
 -- The laws of jumps, for amd64: their forms, and where the machine goes on.
 use Rattle.std.specs.Prelude.{is_some, option_map, All}
-use Rattle.std.specs.List.{flat_map}
-use Rattle.std.proofs.Common.{◌≡◌, ℕ, zero, suc, ℤ, pos, ◌+◌, ◌%◌, ◌^◌, ◌<◌, ◌≤◌, Bool, true, false, IsTrue, List, [], ◌∷◌, ◌++◌, length, Option, Some, None, refl, sym, ◌∙◌, ap, subst, arith, rules}
+use Rattle.std.proofs.Common.{◌≡◌, ℕ, zero, suc, ℤ, pos, ◌+◌, ◌%◌, ◌^◌, ◌<◌, ◌≤◌, true, IsTrue, [], ◌∷◌, ◌++◌, length, Option, Some, None, refl, sym, ◌∙◌, ap, subst, arith, rules}
 use Rattle.std.proofs.lemmas.List.{length-append}
-use Rattle.machine_effect.specs.declared.next.Next.{Next}
-use Rattle.machine_effect.specs.declared.next.Next.TheVariants as next
-use Rattle.machine_effect.specs.Flow.{flow_of}
 use Rattle.machine_effect.specs.Numbers.{fits as fits_bits, moved_by}
 use Rattle.machine_effect.specs.Shapes.{amd64_shape}
-use Rattle.asm_target.specs.declared.refer.Part.TheVariants.{Whole}
 use Rattle.asm_target.specs.Aiming as aim
 use Rattle.asm_target.specs.FlowFunction.{jump_goal, call_goal}
 use Rattle.amd64_table.specs.declared.condition.Cc.{Cc}
@@ -22,16 +17,15 @@ use Rattle.amd64_table.specs.declared.op.Plain.TheVariants as plain
 use Rattle.amd64_table.specs.declared.instr.Instr.{Instr}
 use Rattle.amd64_table.specs.declared.instr.Instr.TheVariants as instr
 use Rattle.amd64_table.specs.Fits.{fits}
-use Rattle.amd64_table.specs.Flows.{move_of, next_of}
+use Rattle.amd64_table.specs.Flows.{next_of}
 use Rattle.amd64_table.proofs.MoveLemmas.{flow_moves}
 use Rattle.amd64_table.proofs.NextLemmas.{nexts}
 use Rattle.amd64_code.specs.InstructionSet.{amd64, Fits, end_of}
 use Rattle.amd64_code.specs.Heads.{head_bytes, rex_bytes}
 use Rattle.amd64_code.specs.Spelling.{spelling_of, short_opcode, near_opcode}
-use Rattle.amd64_code.proofs.LengthLaws.{bounded}
-use Rattle.amd64_forms.specs.Aiming.{forms_of, short_of, long_of, distance_of, aimed_by, place_in, rm_by}
-use Rattle.amd64_select.specs.Aims.{aiming, held}
-use Rattle.amd64_select.specs.AimLaws.{AimedBy, aimed_so}
+use Rattle.amd64_forms.specs.Aiming.{forms_of, short_of, long_of, distance_of, aimed_by}
+use Rattle.amd64_select.specs.Aims.{aiming}
+use Rattle.amd64_select.specs.AimLaws.{aimed_so}
 
 -- where the machine goes on, but for the goal, isn't a matter of the place
 pub steady_next : (i : Instr) (end other : ℕ) → aim.with_goal 0 (next_of i end) ≡ aim.with_goal 0 (next_of i other)

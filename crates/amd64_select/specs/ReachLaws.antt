@@ -1,19 +1,18 @@
 -- How far amd64's instructions reach.
-use Rattle.std.specs.Prelude.{◌↔◌, ◌⊎◌, is_some, nat_lt}
-use Rattle.std.proofs.Common.{◌≡◌, ℕ, zero, suc, ℤ, pos, negsuc, ◌+ℤ◌, ◌-ℤ◌, ◌≤ℤ◌, ◌+◌, ◌-◌, ◌*◌, ◌/◌, ◌%◌, ◌^◌, ◌<◌, ◌≤◌, Bool, true, false, IsTrue, length, Option, Some, None, refl, sym, ◌∙◌, ap, subst, arith, rules, inl, inr}
+use Rattle.std.specs.Prelude.{◌↔◌, ◌⊎◌}
+use Rattle.std.proofs.Common.{◌≡◌, ℕ, ℤ, pos, negsuc, ◌+ℤ◌, ◌-ℤ◌, ◌≤ℤ◌, ◌+◌, ◌-◌, ◌*◌, ◌/◌, ◌%◌, ◌^◌, ◌<◌, ◌≤◌, true, IsTrue, length, refl, sym, ◌∙◌, ap, arith, inl, inr}
 use Rattle.std.proofs.lemmas.Bool.{cases_lt, ltb-true, lt-ltb}
 use Rattle.std.proofs.lemmas.Int.{ints}
 use Rattle.machine_effect.specs.Numbers.{fits as fits_bits, moved_by}
-use Rattle.asm_target.specs.declared.refer.Part.TheVariants.{Whole}
 use Rattle.asm_target.specs.Aiming as aim
 use Rattle.amd64_table.specs.declared.instr.Instr.{Instr}
 use Rattle.amd64_table.specs.declared.instr.Instr.TheVariants as instr
 use Rattle.amd64_code.specs.InstructionSet.{amd64, Fits, end_of}
 use Rattle.amd64_code.specs.Spelling.{spelling_of}
 use Rattle.amd64_code.proofs.LengthLaws.{bounded}
-use Rattle.amd64_forms.specs.Aiming.{distance_of, distance_bits, aimed_by}
+use Rattle.amd64_forms.specs.Aiming.{distance_bits, aimed_by}
 use Rattle.amd64_select.specs.Aims.{aiming}
-use Rattle.amd64_select.specs.AimLaws.{AimedBy, Leads, aimed_so, aims_by}
+use Rattle.amd64_select.specs.AimLaws.{aimed_so, aims_by}
 
 -- a distance of w bits lies from -h to below h, where 2 ^ w is 2 * h
 abbrev IsNear : ℕ → ℕ → ℕ → ℕ → Type 0

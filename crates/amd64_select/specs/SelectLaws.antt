@@ -1,7 +1,7 @@
 -- The laws of selection, for amd64.
-use Rattle.std.specs.Prelude.{◌⊎◌, ◌||◌, All, map, is_some, if◌then◌else◌}
+use Rattle.std.specs.Prelude.{◌⊎◌, ◌||◌, All, map, if◌then◌else◌}
 use Rattle.std.specs.List.{flat_map}
-use Rattle.std.proofs.Common.{◌≡◌, ℕ, zero, suc, ℤ, pos, ◌+ℤ◌, ◌+◌, ◌*◌, ◌<◌, ◌≤◌, Bool, true, false, IsTrue, List, [], ◌∷◌, ◌++◌, length, Option, Some, None, refl, sym, ◌∙◌, ap, subst, arith, rules, inl, inr}
+use Rattle.std.proofs.Common.{◌≡◌, ℕ, ℤ, pos, ◌+ℤ◌, ◌+◌, ◌*◌, ◌<◌, ◌≤◌, Bool, true, false, List, [], ◌∷◌, ◌++◌, length, Option, Some, None, refl, sym, ◌∙◌, ap, subst, arith, rules, inl, inr}
 use Rattle.std.proofs.lemmas.List.{length-append, length-map}
 use Rattle.std.proofs.lemmas.List.Elements.{All-append, All-cons, All-head, All-nil, All-tail}
 use Rattle.std.proofs.lemmas.Grind.{flat_map-append}
@@ -14,30 +14,30 @@ use Rattle.asm_target.specs.declared.refer.Part.TheVariants.{Whole}
 use Rattle.asm_target.specs.declared.refer.Picked.{Picked}
 use Rattle.asm_target.specs.declared.refer.Refer.{Refer}
 use Rattle.asm_target.specs.declared.refer.To.{To}
+use Rattle.asm_target.specs.declared.refer.To.TheVariants as to
 use Rattle.asm_target.specs.Aiming as aim
 use Rattle.asm_target.specs.Frames.{IsFrame}
+use Rattle.asm_target.specs.References.{IsEnd, IsNamed, Names, RefersTo}
 use Rattle.amd64_table.specs.declared.reg.Reg.{Reg}
 use Rattle.amd64_table.specs.declared.xmm.Xmm.{Xmm}
 use Rattle.amd64_table.specs.declared.memory.Mem.TheVariants as memory
 use Rattle.amd64_table.specs.declared.memory.Scale.{Scale}
-use Rattle.amd64_table.specs.declared.mnemonic.Mnemonic.{Mnemonic}
-use Rattle.amd64_table.specs.declared.mnemonic.Mnemonic.TheVariants as name
-use Rattle.amd64_table.specs.declared.operand.Operand.{Operand as Shown}
 use Rattle.amd64_table.specs.declared.operand.Operand.TheVariants as operand
 use Rattle.amd64_table.specs.declared.op.Plain.TheVariants as plain
 use Rattle.amd64_table.specs.declared.instr.Instr.{Instr}
 use Rattle.amd64_table.specs.declared.instr.Instr.TheVariants as instr
 use Rattle.amd64_table.specs.Operands.{factor_of}
-use Rattle.amd64_table.specs.Registers.{reg_text, xmm_text}
 use Rattle.amd64_code.specs.InstructionSet.{amd64, Fits}
 use Rattle.amd64_code.specs.Spelling.{spelling_of}
 use Rattle.amd64_code.proofs.LengthLaws.{bounded}
+use Rattle.amd64_forms.specs.declared.alias.Alias.{Alias}
+use Rattle.amd64_forms.specs.declared.alias.Alias.TheVariants as alias
 use Rattle.amd64_forms.specs.declared.rows.Spoken.{Spoken}
 use Rattle.amd64_forms.specs.declared.rows.Spoken.TheVariants as spoken
 use Rattle.amd64_forms.specs.declared.rows.Resolved.{Resolved}
-use Rattle.amd64_forms.specs.declared.rows.Resolved.TheVariants.{Plain, Address}
-use Rattle.amd64_forms.specs.Aiming.{forms_of, long_of, distance_of}
-use Rattle.amd64_forms.specs.Listed.{Writes}
+use Rattle.amd64_forms.specs.declared.rows.Resolved.TheVariants.{Plain}
+use Rattle.amd64_forms.specs.Aiming.{forms_of, long_of}
+use Rattle.amd64_forms.specs.Names.{alias_text}
 use Rattle.amd64_forms.specs.Rows.{Becomes as BecomesOne, meaning_of}
 use Rattle.amd64_forms.specs.Words.{Says}
 use Rattle.amd64_forms.proofs.Apart.{regs_apart, xmms_apart, reg_no_xmm, reg_no_tls, aliases_apart}
@@ -46,8 +46,7 @@ use Rattle.amd64_forms.proofs.Told.{becomes_one}
 use Rattle.amd64_forms.proofs.Held.{becomes_listed, becomes_directed, holds_address}
 use Rattle.amd64_select.specs.Aims.{aiming}
 use Rattle.amd64_select.specs.FrameLaws.{fits_exit, few_left}
-use Rattle.amd64_select.specs.Frames.{exit_of}
-use Rattle.amd64_select.specs.Operands.{Resolves, IsPlaced, IsRegister, IsBased, IsIndexed, place, refer_of, symbol, goes_to_symbols}
+use Rattle.amd64_select.specs.Operands.{Resolves, IsPlaced, IsRegister, IsBased, IsIndexed, refer_of, goes_to_symbols}
 use Rattle.amd64_select.specs.Selecting.{Becomes, BecomesBy, Knows, Picks, ResolveAll, alone, before, code_of, first_refer, refers, selection}
 
 -- a name says one thing
@@ -263,3 +262,72 @@ few_bytes stmt site code is becomes = by (kind_by becomes.spoken stmt site code 
     by (none empty) = omega (arith, most_of code, ap length empty)
     by (some s i picks told) =
         omega (arith, most_of code, ap length told, few_codes i (refers stmt.operands) site.frame)
+
+-- What an operand refers to is that operand
+
+named : (op : Operand) (refer : Refer) → refer_of op ≡ Some refer → Names op refer.to
+named (written.Sym sym' off address) refer is = (let same : record { to = to.Symbol sym' off; part = Whole } ≡ refer = cc in sym (ap (λ (r : Refer). r.to) same))
+named (written.Label statement) refer is = (let same : record { to = to.Stmt statement; part = Whole } ≡ refer = cc in sym (ap (λ (r : Refer). r.to) same))
+named _ refer is = absurd (cc)
+
+is_named : (ops : List Operand) (refer : Refer) → refers ops ≡ Some refer → IsNamed ops refer.to
+is_named [] refer is = absurd (cc)
+is_named (op ∷ ops) refer is = by (refer_of op) refl is
+  where
+    by : (r : Option Refer) → refer_of op ≡ r → first_refer r (refers ops) ≡ Some refer → IsNamed (op ∷ ops) refer.to
+    by None at is = inr (is_named ops refer is)
+    by (Some r) at is = inl (named op refer (at ∙ is))
+
+alone_refers : (P : To → Type 0) (code : List Instr) → All (RefersTo P) (map alone code)
+alone_refers P [] = All-nil (RefersTo P)
+alone_refers P (i ∷ code) = All-cons (RefersTo P) (alone i) (map alone code) (λ refer is. absurd (cc)) (alone_refers P code)
+
+pub refers_named : (stmt : Stmt) (site : Site) (code : List (Picked Instr)) → Becomes stmt site code
+    → All (RefersTo (IsNamed stmt.operands)) code
+refers_named stmt site code becomes = by (kind_by becomes.spoken stmt site code becomes.by)
+  where
+    Named : Picked Instr → Type 0
+    Named = RefersTo (IsNamed stmt.operands)
+    by : Kind stmt site code → All Named code
+    by (none empty) = subst (All Named) (sym empty) (All-nil Named)
+    by (some s i picks told) =
+        let last : Picked Instr = record { instr = i; refer = refers stmt.operands } in
+        subst (All Named) (sym told)
+        (All-append Named (map alone (before i site.frame)) (last ∷ []) (alone_refers (IsNamed stmt.operands) (before i site.frame))
+        (All-cons Named last [] (λ refer is. is_named stmt.operands refer is) (All-nil Named)))
+
+-- NOP, PCDATA and FUNCDATA alone become nothing
+
+meaning_some : (name : Alias) → spoken.Nothing ≡ meaning_of name → ¬ IsEnd (alias_text name)
+unfolding alias_text meaning_of
+meaning_some alias.Nop is (inl end) = cc
+meaning_some alias.Nop is (inr (inl end)) = cc
+meaning_some alias.Nop is (inr (inr end)) = cc
+meaning_some alias.Pcdata is (inl end) = cc
+meaning_some alias.Pcdata is (inr (inl end)) = cc
+meaning_some alias.Pcdata is (inr (inr end)) = cc
+meaning_some alias.Funcdata is (inl end) = cc
+meaning_some alias.Funcdata is (inr (inl end)) = cc
+meaning_some alias.Funcdata is (inr (inr end)) = cc
+meaning_some _ is end = cc
+
+says_some : (text : List ℕ) → IsEnd text → ¬ Says text spoken.Nothing
+unfolding Says
+says_some text end (inl one) = cc
+says_some text end (inr one) = meaning_some one.0 one.2 (subst IsEnd (sym one.1) end)
+
+some_code : (i : Instr) (refer : Option Refer) (frame : FrameShape) → 0 < length (code_of i refer frame)
+some_code i refer frame = omega (arith, length-append (map alone (before i frame)) (record { instr = i; refer = refer } ∷ []))
+
+some_by : (s : Spoken) (stmt : Stmt) (site : Site) (code : List (Picked Instr)) → ¬ (s ≡ spoken.Nothing) → BecomesBy s stmt site code
+    → 0 < length code
+some_by spoken.Nothing stmt site code not by = absurd (not refl)
+some_by (spoken.Listed m) stmt site code not by = omega (arith, ap length by.2, some_code by.0 (refers stmt.operands) site.frame)
+some_by spoken.Widen stmt site code not by = omega (arith, ap length by.2, some_code by.0 (refers stmt.operands) site.frame)
+some_by (spoken.ToLabel cc') stmt site code not by = omega (arith, ap length by.2, some_code by.0 (refers stmt.operands) site.frame)
+some_by (spoken.Direct near) stmt site code not by = omega (arith, ap length by.2, some_code by.0 (refers stmt.operands) site.frame)
+some_by spoken.Adjust stmt site code not by = omega (arith, ap length by.2, some_code by.0 (refers stmt.operands) site.frame)
+
+pub ends : (stmt : Stmt) (site : Site) (code : List (Picked Instr)) → IsEnd stmt.op → Becomes stmt site code → 0 < length code
+ends stmt site code end becomes =
+    some_by becomes.spoken stmt site code (λ none. says_some stmt.op end (subst (Says stmt.op) none becomes.says)) becomes.by

@@ -1,5 +1,5 @@
 -- Which instructions statements become.
-use Rattle.std.specs.Prelude.{◌≡◌, ℕ, pos, Bool, true, false, List, [], ◌∷◌, ◌++◌, map, Option, Some, None}
+use Rattle.std.specs.Prelude.{◌≡◌, ℕ, Bool, false, List, [], ◌∷◌, ◌++◌, map, Option, Some, None}
 use Rattle.goasm_base.specs.declared.statement.Operand.{Operand}
 use Rattle.goasm_base.specs.declared.statement.Stmt.{Stmt}
 use Rattle.asm_target.specs.declared.frame.FrameShape.{FrameShape}

@@ -1,6 +1,6 @@
 -- The laws of sequences, for amd64, which has none; and how many instructions a check has.
-use Rattle.std.specs.Prelude.{All, map, take, ◌++◌}
-use Rattle.std.proofs.Common.{◌≡◌, ℕ, zero, suc, ◌+◌, ◌-◌, ◌<◌, ◌≤◌, List, length, Option, None, refl, arith}
+use Rattle.std.specs.Prelude.{◌++◌}
+use Rattle.std.proofs.Common.{◌≡◌, ◌+◌, ◌-◌, ◌<◌, ◌≤◌, List, length, None, refl, arith}
 use Rattle.machine_effect.specs.Shapes.{amd64_shape}
 use Rattle.asm_target.specs.declared.frame.FrameShape.{FrameShape}
 use Rattle.asm_target.specs.Frames.{IsFrame}

@@ -1,6 +1,5 @@
 -- How many bytes of an operand in memory a name of an instruction accesses.
 use Rattle.std.specs.Prelude.{ℕ, Bool, true, false, ◌==◌, ◌&&◌, List, [], ◌∷◌, ◌++◌, map, if◌then◌else◌}
-use Rattle.std.specs.List.{flat_map}
 use Rattle.asm_target.specs.declared.width.Width.{Width}
 use Rattle.asm_target.specs.declared.width.Width.TheVariants.{Bytes, Address, Unknown}
 use Rattle.amd64_table.specs.declared.condition.Cc.{Cc}
@@ -18,7 +17,6 @@ use Rattle.amd64_table.specs.declared.op.Unary.TheVariants as unary
 use Rattle.amd64_table.specs.declared.mnemonic.Mnemonic.{Mnemonic}
 use Rattle.amd64_table.specs.declared.mnemonic.Mnemonic.TheVariants as name
 use Rattle.amd64_table.specs.Mnemonics.{mnemonic_text}
-use Rattle.amd64_table.specs.Operands.{bytes_of}
 use Rattle.amd64_forms.specs.declared.alias.Alias.{Alias}
 use Rattle.amd64_forms.specs.declared.alias.Alias.TheVariants as alias
 use Rattle.amd64_forms.specs.declared.rows.Spoken.{Spoken}

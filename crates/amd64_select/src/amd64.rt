@@ -111,6 +111,10 @@ impl Target for Amd64 {
 
     ghost few_bytes = { selects.few_bytes };
 
+    ghost refers = { selects.refers_named };
+
+    ghost ends = { selects.ends };
+
     ghost formed = { jumps.formed };
 
     ghost same_lengths = { aims.same_lengths };
@@ -123,11 +127,15 @@ impl Target for Amd64 {
 
     ghost entering = { frames.entering };
 
+    ghost enters_listed = { frames.fits_entry };
+
     ghost leaving = { frames.leaving };
 
     ghost checking = { checks.checking };
 
     ghost check_pickable = { checks.check_pickable };
+
+    ghost stays_around = { checks.stays_around };
 
     ghost few_instructions = { plain_laws.few_instructions };
 

@@ -1,13 +1,13 @@
 -- The parameters of a macro, read from left to right.
 use std.Path.{fun_ext}
-use Rattle.std.proofs.Common.{◌≡◌, ℕ, suc, ◌+◌, ◌&&◌, ◌||◌, not, Bool, true, false, cond, List, [], ◌∷◌, length, Option, Some, None, is_some, is_none, inl, inr, refl, sym, ap, ◌∙◌, bytes_eq, if◌then◌else◌, arith, zero-add, add-zero}
+use Rattle.std.proofs.Common.{◌≡◌, ℕ, ◌+◌, ◌&&◌, ◌||◌, not, Bool, true, false, List, [], ◌∷◌, length, Option, Some, None, is_some, is_none, inl, inr, refl, sym, ap, ◌∙◌, bytes_eq, if◌then◌else◌, arith, zero-add, add-zero}
 use Rattle.std.specs.List.{list_any, position_from}
 use Rattle.std.specs.Option.{option_map, option_or}
 use Rattle.std.proofs.lemmas.Bool.{cases_Bool}
 use Rattle.asm_lex.specs.declared.token.Token.{Token}
 use Rattle.asm_directive.specs.Names.{Names, nothing, with_name}
 use Rattle.asm_directive.specs.Tokens.{is_word, is_sign, closing, comma}
-use Rattle.asm_directive.specs.Directives.{Parameters, Head, Words, with_word, words_in, are_distinct, parameters_named, head_by}
+use Rattle.asm_directive.specs.Directives.{Head, Words, with_word, words_in, are_distinct, head_by}
 use Rattle.asm_directive.proofs.NameLemmas.{put_first, or_nothing}
 
 -- next comes a word, or a comma or the closing bracket; so many names have places

@@ -1,5 +1,5 @@
 -- Loops over the files of a build.
-use Rattle.std.proofs.Common.{◌≡◌, ℕ, suc, ◌+◌, ◌<◌, Bool, true, false, ◌||◌, max, List, [], ◌∷◌, ◌++◌, drop, length, get_or, Option, Some, None, is_some, Result, Ok, Err, if◌then◌else◌, refl, sym, ap, ◌∙◌, add-one, drop-cons, append_assoc, append-nil, bytes_eq, ◌≤◌}
+use Rattle.std.proofs.Common.{◌≡◌, ℕ, suc, ◌+◌, ◌<◌, Bool, true, false, ◌||◌, max, List, [], ◌∷◌, ◌++◌, drop, length, get_or, Option, Some, None, is_some, Result, Ok, Err, if◌then◌else◌, refl, sym, ap, ◌∙◌, add-one, drop-cons, append_assoc, append-nil, ◌≤◌}
 use Rattle.std.specs.Borrow.{Bor}
 use Rattle.std.specs.Option.{option_map}
 use Rattle.std.proofs.lemmas.List.{drop_all}

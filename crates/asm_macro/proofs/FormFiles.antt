@@ -1,5 +1,5 @@
 -- What is read and put out has the form of tokens and stands in one of these files: files.
-use Rattle.std.proofs.Common.{◌≡◌, ℕ, zero, suc, ◌+◌, ◌&&◌, ◌||◌, ◌==◌, Bool, true, false, List, [], ◌∷◌, All, Option, Some, None, is_some, is_none, Result, Ok, inl, inr, refl, bytes_eq, if◌then◌else◌, not}
+use Rattle.std.proofs.Common.{◌≡◌, ℕ, zero, suc, ◌+◌, ◌&&◌, ◌||◌, ◌==◌, Bool, true, false, List, [], ◌∷◌, All, Option, Some, None, is_some, Result, Ok, inl, inr, refl, bytes_eq, if◌then◌else◌, not}
 use Rattle.std.specs.List.{before_first}
 use Rattle.std.specs.Option.{option_map}
 use Rattle.std.proofs.lemmas.Bool.{cases_Bool}
@@ -17,7 +17,7 @@ use Rattle.asm_directive.specs.declared.keyword.Keyword.TheVariants as keywords
 use Rattle.asm_macro.specs.declared.built_in.BuiltIn.{BuiltIn}
 use Rattle.asm_macro.specs.declared.built_in.BuiltIn.TheVariants.{Textflag, Funcdata}
 use Rattle.asm_macro.specs.declared.built_in.Row.{Row}
-use Rattle.asm_directive.specs.Names.{Names, nothing, with_name}
+use Rattle.asm_directive.specs.Names.{Names, with_name}
 use Rattle.asm_directive.specs.Tokens.{is_word, is_end, is_newline, is_sign, opening, closing, comma}
 use Rattle.asm_macro.specs.Definitions.{Definition, Definitions, definition_by}
 use Rattle.asm_macro.specs.Refusals.{◌>>=◌}

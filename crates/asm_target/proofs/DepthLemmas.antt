@@ -1,5 +1,5 @@
 -- Which sequence ends with an instruction.
-use Rattle.std.proofs.Common.{◌≡◌, ℕ, ℤ, SFits, w64, to_z, of_z, ◌^◌, suc, ◌-◌, ◌≤◌, ◌<◌, ◌&&◌, ◌==◌, not, Bool, true, false, Option, Some, is_some, nat_le, List, map, take, take_all, drop, length, length-drop, get_or, refl, sym, ap, ◌∙◌, arith, rules}
+use Rattle.std.proofs.Common.{◌≡◌, ℕ, ℤ, SFits, w64, to_z, of_z, ◌^◌, suc, ◌-◌, ◌≤◌, ◌<◌, ◌&&◌, ◌==◌, not, Bool, true, false, is_some, nat_le, List, map, take, take_all, drop, length, length-drop, get_or, refl, sym, ap, ◌∙◌, arith}
 use Rattle.std.proofs.lemmas.Int.{ints, to_z-of_z}
 use Rattle.std.specs.Int.Signed.{mag}
 use Rattle.std.specs.Bool.{if◌then◌else◌}

@@ -10,6 +10,8 @@ pub mod DepthCases
 pub mod FlowCases
 pub mod Frames
 pub mod Selection
+pub mod References
 pub mod Aiming
+pub mod Goals
 pub mod Standing
 pub mod SequenceLaws

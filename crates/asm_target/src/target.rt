@@ -1,4 +1,4 @@
-ghost use Rattle.std.specs.Prelude.{◌≡◌, ◌↔◌, ◌≤◌, ◌+◌, ℕ, Bool, List, All, map, length, IsTrue, Some, IfOk, IfSome, IfErr, MatchResult};
+ghost use Rattle.std.specs.Prelude.{◌≡◌, ◌↔◌, ◌<◌, ◌≤◌, ◌+◌, ℕ, Bool, List, All, map, length, IsTrue, Some, IfOk, IfSome, IfErr, MatchResult};
 ghost use Rattle.asm_target.specs.declared.frame.FrameShape.{FrameShape};
 ghost use Rattle.asm_target.specs.declared.frame.Guard.{Guard};
 ghost use Rattle.asm_target.specs.declared.frame.Site.{Site};
@@ -9,6 +9,7 @@ ghost use Rattle.goasm_base.specs.declared.statement.Stmt.{Stmt};
 ghost use Rattle.asm_target.specs.Aiming as aim;
 ghost use Rattle.asm_target.specs.Aiming.{Aiming};
 ghost use Rattle.asm_target.specs.Frames.{IsFrame};
+ghost use Rattle.asm_target.specs.References as references;
 ghost use Rattle.asm_target.specs.Selection.{Selection, IsRefused};
 ghost use Rattle.asm_target.specs.SequenceLaws as sequences;
 ghost use Rattle.asm_target.specs.Standing as standing;
@@ -120,6 +121,14 @@ pub trait Target: Processor {
         → IsFrame Self.MACHINE site.frame → selection.becomes stmt site code
         → aim.most_bytes Self.instructions aiming code ≤ 64 };
 
+    /// What the instructions of a statement refer to is among its operands.
+    ghost refers: { (stmt : Stmt) (site : Site) (code : List (Picked Self.Instr)) → selection.becomes stmt site code
+        → All (references.RefersTo (references.IsNamed stmt.operands)) code };
+
+    /// Where RET, JMP or B becomes instructions, there is one.
+    ghost ends: { (stmt : Stmt) (site : Site) (code : List (Picked Self.Instr)) → references.IsEnd stmt.op
+        → selection.becomes stmt site code → 0 < length code };
+
     /// The short form of an instruction is one instruction and no longer than the long one, and both jump alike.
     ghost formed: { aim.HaveForms Self.instructions Self.fits aiming };
 
@@ -138,6 +147,9 @@ pub trait Target: Processor {
     /// Entering a frame breaks no flow rule and ends at the frame's depth.
     ghost entering: { standing.Enters Self.instructions Self.fits begins Self.SHAPE Self.MACHINE entry };
 
+    /// What enters a frame is listed.
+    ghost enters_listed: { (frame : FrameShape) → IsFrame Self.MACHINE frame → All Self.fits (entry frame) };
+
     /// Leaving a frame breaks no flow rule and ends at depth 0.
     ghost leaving: { standing.Leaves Self.instructions Self.fits begins Self.SHAPE Self.MACHINE exit };
 
@@ -148,6 +160,9 @@ pub trait Target: Processor {
     /// What a check picks is listed, and what refers to a whole address holds one.
     ghost check_pickable: { (frame : FrameShape) → IsFrame Self.MACHINE frame
         → All (aim.IsPickable Self.fits aiming) (check frame).head × All (aim.IsPickable Self.fits aiming) (check frame).block };
+
+    /// A check refers to its own function and to the routine that grows the stack, and its block has an instruction.
+    ghost stays_around: { (frame : FrameShape) → IsFrame Self.MACHINE frame → references.StaysAround (check frame) };
 
     /// A check and its block have, together with what enters the frame, at most 14 instructions.
     ghost few_instructions: { (frame : FrameShape) → IsFrame Self.MACHINE frame

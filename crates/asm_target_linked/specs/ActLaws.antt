@@ -1,7 +1,7 @@
 -- The laws of sequences and of the check.
 use Rattle.std.specs.Int.{w8, w32}
-use Rattle.std.specs.Prelude.{All, FitsSigned, ℤ, pos, ◌-ℤ◌, if◌then◌else◌, map, nat_le, nat_lt}
-use Rattle.std.proofs.Common.{◌≡◌, ℕ, zero, suc, List, [], ◌∷◌, ◌++◌, ◌+◌, ◌<◌, ◌≤◌, ◌&&◌, Bool, true, false, Some, None, Option, length, take, refl, sym, ap, ◌∙◌, arith, subst}
+use Rattle.std.specs.Prelude.{All, FitsSigned, ℤ, pos, ◌-ℤ◌, if◌then◌else◌, nat_le}
+use Rattle.std.proofs.Common.{◌≡◌, ℕ, zero, suc, List, [], ◌∷◌, ◌++◌, ◌+◌, ◌<◌, ◌≤◌, ◌&&◌, true, false, Some, None, length, take, refl, sym, ap, ◌∙◌, arith, subst}
 use Rattle.std.proofs.lemmas.Bool.Decides.{nat_tests}
 use Rattle.std.proofs.lemmas.Int.{ints}
 use Rattle.std.proofs.lemmas.List.Elements.{All-nil, All-cons}
@@ -9,19 +9,19 @@ use Rattle.std.proofs.lemmas.Option.{some_pair_parts}
 use Rattle.std.specs.List.{slice_get}
 use Rattle.machine_effect.specs.declared.effect.Access.{Access}
 use Rattle.machine_effect.specs.declared.effect.Atom.TheVariants.{Reg}
-use Rattle.machine_effect.specs.declared.effect.Value.{Value}
 use Rattle.machine_effect.specs.declared.flow.SpMove.TheVariants.{Keep}
 use Rattle.machine_effect.specs.declared.next.Next.TheVariants as next
 use Rattle.machine_effect.specs.declared.state.State.{State}
-use Rattle.machine_effect.specs.Applies.{IsState, address_of}
+use Rattle.machine_effect.specs.Applies.{address_of}
 use Rattle.machine_effect.specs.Flow.{flow_of}
 use Rattle.machine_effect.specs.Values.{reg_of}
 use Rattle.asm_target.proofs.CheckLaws.{IsGrowthBlock, linked_check}
 use Rattle.asm_target.proofs.CheckLemmas.{IsHeadPick, IsMadeSo, branches, goes_on}
-use Rattle.asm_target.proofs.GuardLemmas.{GoesTo, GuardLaws, IsBranchPick, IsCallPick, IsJumpPick, IsQuietPick}
-use Rattle.asm_target.proofs.PlaceLemmas.{fit_at}
+use Rattle.asm_target.proofs.GuardLemmas.{GuardLaws, IsBranchPick, IsCallPick, IsJumpPick, IsQuietPick}
 use Rattle.asm_target.specs.declared.frame.FrameShape.{FrameShape}
+use Rattle.asm_target.specs.declared.refer.Part.TheVariants.{Whole}
 use Rattle.asm_target.specs.declared.refer.Picked.{Picked}
+use Rattle.asm_target.specs.declared.refer.Refer.{Refer}
 use Rattle.asm_target.specs.declared.refer.To.{To}
 use Rattle.asm_target.specs.declared.refer.To.TheVariants as to
 use Rattle.asm_target.specs.declared.sequence.Sequence.{Sequence}
@@ -30,7 +30,8 @@ use Rattle.asm_target.specs.Aiming.{IsPickable}
 use Rattle.asm_target.specs.Architecture.{riscv64}
 use Rattle.asm_target.specs.FlowFunction.{call_goal, jump_goal}
 use Rattle.asm_target.specs.Frames.{IsFrame, greatest_total}
-use Rattle.asm_target.specs.SequenceLaws.{DoSequences, DoesAs, IsGrowing, IsRestoring, IsSaving, IsTotal, below}
+use Rattle.asm_target.specs.References.{IsAround, RefersTo, StaysAround}
+use Rattle.asm_target.specs.SequenceLaws.{DoSequences, DoesAs, IsGrowing, IsRestoring, IsSaving, below}
 use Rattle.asm_target.specs.Sequences.{count_of}
 use Rattle.asm_target.specs.Standing.{KeepsLevel}
 use Rattle.asm_target_linked.specs.declared.instr.FrameOp.TheVariants.{Save, Load, Below, Above}
@@ -310,3 +311,34 @@ few_entering (suc m) =
 pub few_instructions : (frame : FrameShape) → IsFrame 243 frame
     → length (check frame).head + length (check frame).block + length (entry frame) ≤ 14
 few_instructions frame is = omega (arith, few_entering frame.total)
+
+-- what enters a frame is listed
+pub enters_listed : (frame : FrameShape) → IsFrame 243 frame → All Fits (entry frame)
+enters_listed frame is = by frame.total is.most
+  where
+    by : (n : ℕ) → n ≤ greatest_total → All Fits (entering n)
+    by zero most = All-nil Fits
+    by (suc m) most =
+        elim (nat_le (suc m) 240) as (λ b. All Fits (if b then Frame Save (suc m) ∷ [] else enter_long (suc m))) [
+          | true ↦ All-cons Fits (Frame Save (suc m)) [] (omega arith) (All-nil Fits)
+          | false ↦ All-cons Fits (Frame Below (suc m)) (Plain SaveAt ∷ Plain SetSp ∷ []) (omega arith)
+              (All-cons Fits (Plain SaveAt) (Plain SetSp ∷ []) tt (All-cons Fits (Plain SetSp) [] tt (All-nil Fits)))
+        ]
+
+-- a check goes past its block, and the block to the routine and to the function's entry
+pub stays_around : (frame : FrameShape) → StaysAround (check frame)
+stays_around frame =
+    let Around : Picked Instr → Type 0 = RefersTo (IsAround true) in
+    record {
+      head = All-cons Around (plain (Plain Limit)) (goes (Near false (pos 0)) to.Past ∷ []) (λ refer is. absurd (cc))
+          (All-cons Around (goes (Near false (pos 0)) to.Past) [] (goes_around (Near false (pos 0)) to.Past refl) (All-nil Around));
+      block = All-cons Around (goes (Far true (pos 0)) to.Grow) (goes (Far false (pos 0)) to.Entry ∷ [])
+          (goes_around (Far true (pos 0)) to.Grow tt)
+          (All-cons Around (goes (Far false (pos 0)) to.Entry) [] (goes_around (Far false (pos 0)) to.Entry tt) (All-nil Around));
+      some = omega arith;
+    }
+  where
+    goes_around : (i : Instr) (goal : To) → IsAround true goal → RefersTo (IsAround true) (goes i goal)
+    goes_around i goal around refer is =
+        let same : record { to = goal; part = Whole } ≡ refer = cc in
+        subst (λ (r : Refer). IsAround true r.to) same around

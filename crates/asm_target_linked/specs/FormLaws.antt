@@ -1,16 +1,15 @@
 -- The laws of forms and of aiming.
-use Rattle.std.specs.Int.{w8, w32, w64, cast_unsigned}
+use Rattle.std.specs.Int.{w8, w32}
 use Rattle.std.specs.Prelude.{All, FitsSigned, ℤ, pos, negsuc, ◌-ℤ◌, ◌≤ℤ◌, Bool}
-use Rattle.std.proofs.Common.{◌≡◌, ◌↔◌, ℕ, zero, suc, List, [], ◌∷◌, ◌++◌, ◌+◌, ◌-◌, ◌%◌, ◌^◌, ◌<◌, ◌≤◌, true, false, not, Some, None, length, refl, sym, ap, ◌∙◌, arith, subst}
+use Rattle.std.proofs.Common.{◌≡◌, ◌↔◌, ℕ, zero, suc, List, [], ◌∷◌, ◌++◌, ◌+◌, ◌-◌, ◌%◌, ◌^◌, ◌<◌, ◌≤◌, true, false, not, Some, length, refl, sym, ap, ◌∙◌, arith, subst}
 use Rattle.std.proofs.lemmas.Int.{ints}
 use Rattle.std.proofs.lemmas.List.Elements.{All-nil, All-cons}
 use Rattle.machine_effect.specs.declared.next.Next.TheVariants as next
-use Rattle.machine_effect.specs.declared.state.State.{State}
 use Rattle.machine_effect.specs.Flow.{flow_of}
-use Rattle.machine_effect.specs.Values.{holds, holds_by}
+use Rattle.machine_effect.specs.Values.{holds_by}
 use Rattle.asm_target.specs.Architecture.{riscv64}
 use Rattle.asm_target.specs.declared.refer.Part.TheVariants.{Whole}
-use Rattle.asm_target.specs.Aiming.{Aims, AreOpposite, AreSteady, CanReach, HasForms, HasReach, HaveForms, HaveReach, HoldGoals, JumpsAs, JumpsOver, KeepLengths, bytes_of, with_goal}
+use Rattle.asm_target.specs.Aiming.{Aims, AreOpposite, AreSteady, HasForms, HasReach, HaveForms, HaveReach, HoldGoals, JumpsAs, KeepLengths, bytes_of, with_goal}
 use Rattle.asm_target.specs.FlowFunction.{jump_goal, call_goal}
 use Rattle.asm_target_linked.specs.declared.instr.FrameOp.{FrameOp}
 use Rattle.asm_target_linked.specs.declared.instr.Op.{Op}

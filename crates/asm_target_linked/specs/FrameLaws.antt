@@ -1,32 +1,29 @@
 -- The laws of frames, of the check and of telling sequences.
-use Rattle.std.specs.Int.{w8, w32}
-use Rattle.std.specs.Prelude.{All, FitsSigned, ℤ, pos, ◌+ℤ◌, ◌-ℤ◌, map, nat_le, nat_lt}
-use Rattle.std.proofs.Common.{◌≡◌, ℕ, zero, suc, List, [], ◌∷◌, ◌++◌, ◌+◌, ◌<◌, ◌≤◌, ◌==◌, ◌&&◌, ◌⊎◌, Bool, true, false, Some, None, Option, length, take, drop, refl, sym, ap, ◌∙◌, arith, subst, inl, inr, is_some, if◌then◌else◌}
+use Rattle.std.specs.Prelude.{All, ℤ, ◌+ℤ◌, ◌-ℤ◌, map, nat_le}
+use Rattle.std.proofs.Common.{◌≡◌, ℕ, zero, suc, List, [], ◌∷◌, ◌++◌, ◌+◌, ◌<◌, ◌≤◌, ◌==◌, ◌&&◌, ◌⊎◌, Bool, true, false, length, take, drop, refl, sym, ap, ◌∙◌, arith, subst, if◌then◌else◌}
 use Rattle.std.proofs.lemmas.Bool.{and_parts}
 use Rattle.std.proofs.lemmas.Bool.Decides.{nat_tests, Decides-eqb}
 use Rattle.std.proofs.lemmas.Int.{ints}
 use Rattle.std.proofs.lemmas.List.Elements.{All-nil, All-cons}
-use Rattle.std.specs.List.{slice_get}
 use Rattle.machine_effect.specs.declared.next.Next.TheVariants as next
 use Rattle.machine_effect.specs.Flow.{flow_of}
 use Rattle.asm_target.proofs.PlaceLemmas.{fit_at}
-use Rattle.asm_target.proofs.SequenceLemmas.{IsWhole, SuitsDepth, whole}
-use Rattle.asm_target.specs.declared.frame.FrameShape.{FrameShape}
+use Rattle.asm_target.proofs.SequenceLemmas.{whole}
 use Rattle.asm_target.specs.declared.sequence.Sequence.{Sequence}
 use Rattle.asm_target.specs.declared.sequence.Sequence.TheVariants as sequence
 use Rattle.asm_target.specs.Architecture.{riscv64}
-use Rattle.asm_target.specs.Frames.{IsFrame, greatest_total}
+use Rattle.asm_target.specs.Frames.{greatest_total}
 use Rattle.asm_target.specs.SequenceLaws.{GrowsAnywhere, IsTold, StandsApart}
 use Rattle.asm_target.specs.Sequences.{count_of, span_of, is_plain}
-use Rattle.asm_target.specs.Standing.{Enters, KeepsRules, Leaves, MovesDepth}
+use Rattle.asm_target.specs.Standing.{Enters, KeepsRules, Leaves}
 use Rattle.asm_target_linked.specs.declared.instr.FrameOp.TheVariants.{Save, Load, Below, Above}
 use Rattle.asm_target_linked.specs.declared.instr.Instr.{Instr}
-use Rattle.asm_target_linked.specs.declared.instr.Instr.TheVariants.{Plain, Frame, Near, Far}
-use Rattle.asm_target_linked.specs.declared.instr.Op.TheVariants.{Nop, SaveAt, SetSp, LoadLink, Limit, Return}
+use Rattle.asm_target_linked.specs.declared.instr.Instr.TheVariants.{Plain, Frame, Far}
+use Rattle.asm_target_linked.specs.declared.instr.Op.TheVariants.{SaveAt, SetSp, LoadLink}
 use Rattle.asm_target_linked.specs.Instr.{Fits, effect_of, linked}
 use Rattle.asm_target_linked.specs.Forms.{aiming, undirected}
 use Rattle.asm_target_linked.specs.FormLaws.{aimed_far}
-use Rattle.asm_target_linked.specs.Frames.{begins, entering, enter_long, entry, exit, exiting, is_long, is_short, jumps_next, leave_long, restored, saves_next, sets_next}
+use Rattle.asm_target_linked.specs.Frames.{begins, entering, enter_long, entry, exit, exiting, is_long, is_short, jumps_next, leave_long, saves_next, sets_next}
 
 -- which sequence some code begins with
 pub data Kind (code : List Instr) : Type 0 where

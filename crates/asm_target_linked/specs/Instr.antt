@@ -1,5 +1,5 @@
 -- What the instructions mean: spellings, effects and texts.
-use Rattle.std.specs.Prelude.{ℕ, ℤ, pos, ◌-ℤ◌, Bool, true, false, List, [], ◌∷◌, ◌++◌, ◌+◌, ◌%◌, ◌^◌, ◌<◌, ◌==◌, codes, FitsSigned, Option, Some, None, if◌then◌else◌}
+use Rattle.std.specs.Prelude.{ℕ, ℤ, pos, ◌-ℤ◌, Bool, true, false, List, [], ◌∷◌, ◌++◌, ◌+◌, ◌%◌, ◌^◌, ◌<◌, ◌==◌, codes, FitsSigned, Some, None, if◌then◌else◌}
 use Rattle.std.specs.Int.{w8, w32, w64, cast_unsigned, to_le_bytes}
 use Rattle.goasm_base.specs.Numbers.{hex_text, decimal_text}
 use Rattle.machine_effect.specs.declared.cond.Cond.{Cond}

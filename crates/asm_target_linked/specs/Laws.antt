@@ -1,14 +1,13 @@
 -- The laws of processors.
-use Rattle.std.specs.Int.{w8, w32, w64, cast_signed, cast_unsigned, from_le_bytes, to_le_bytes}
-use Rattle.std.specs.Prelude.{All, FitsSigned, Bool, pos, ◌-ℤ◌, slice_index}
-use Rattle.std.proofs.Common.{◌≡◌, ℕ, ℤ, List, [], ◌∷◌, ◌++◌, ◌+◌, ◌/◌, ◌%◌, ◌^◌, ◌<◌, ◌≤◌, true, false, Some, length, drop, refl, ap, ◌∙◌, arith, rules, inl, inr, subst}
+use Rattle.std.specs.Int.{w8, w32, cast_signed, cast_unsigned, from_le_bytes, to_le_bytes}
+use Rattle.std.specs.Prelude.{All, FitsSigned, pos, ◌-ℤ◌, slice_index}
+use Rattle.std.proofs.Common.{◌≡◌, ℕ, ℤ, List, [], ◌∷◌, ◌++◌, ◌+◌, ◌/◌, ◌%◌, ◌^◌, ◌<◌, ◌≤◌, true, false, Some, length, drop, refl, ap, ◌∙◌, arith, inl, inr}
 use Rattle.std.proofs.lemmas.Int.{to_z-of_z, ints}
 use Rattle.std.proofs.lemmas.Nat.{from_le_bytes-to_le_bytes_4}
 use Rattle.std.proofs.lemmas.Bool.Decides.{nat_tests}
 use Rattle.std.proofs.lemmas.List.Elements.{All-nil, All-cons}
-use Rattle.machine_effect.specs.declared.effect.Access.{Access}
 use Rattle.machine_effect.specs.declared.effect.Atom.{Atom}
-use Rattle.machine_effect.specs.declared.effect.Atom.TheVariants.{Reg, Const, Loaded}
+use Rattle.machine_effect.specs.declared.effect.Atom.TheVariants.{Reg, Loaded}
 use Rattle.machine_effect.specs.declared.effect.Value.{Value}
 use Rattle.machine_effect.specs.declared.op.Op.{Op as Operation}
 use Rattle.machine_effect.specs.declared.op.Op.TheVariants.{Copy, Add, Subtract}
@@ -17,13 +16,11 @@ use Rattle.machine_effect.specs.Flow.{flow_of}
 use Rattle.asm_target.specs.Architecture.{IsArchitecture, riscv64}
 use Rattle.asm_target.specs.InstructionSet.{Begins}
 use Rattle.asm_target.specs.Laws as laws
-use Rattle.asm_target_linked.specs.declared.instr.FrameOp.{FrameOp}
 use Rattle.asm_target_linked.specs.declared.instr.FrameOp.TheVariants.{Save, Load, Below, Above}
 use Rattle.asm_target_linked.specs.declared.instr.Instr.{Instr}
 use Rattle.asm_target_linked.specs.declared.instr.Instr.TheVariants.{Plain, Frame, Near, Far}
-use Rattle.asm_target_linked.specs.declared.instr.Op.{Op}
 use Rattle.asm_target_linked.specs.declared.instr.Op.TheVariants.{Nop, SaveAt, SetSp, LoadLink, Limit, Return}
-use Rattle.asm_target_linked.specs.Instr.{Fits, copy_of, eight_at, goal_of, linked, loading, spelling_of, word, writing}
+use Rattle.asm_target_linked.specs.Instr.{Fits, copy_of, eight_at, linked, spelling_of, word}
 use Rattle.asm_target_linked.specs.Reading.{reading}
 
 pub architecture : IsArchitecture (record { machine = 243; quantum = 4; shape = riscv64.shape; growth = riscv64.growth })

@@ -1,11 +1,7 @@
 -- What the sequences do when they run.
-use Rattle.std.specs.Prelude.{All, ℤ, pos, negsuc, ◌-ℤ◌, nat_le, nat_lt}
-use Rattle.std.proofs.Common.{◌≡◌, ℕ, zero, suc, List, [], ◌∷◌, ◌++◌, ◌+◌, ◌-◌, ◌*◌, ◌%◌, ◌^◌, ◌<◌, ◌≤◌, ◌&&◌, Bool, true, false, Some, None, Option, length, take, set, get_or, refl, sym, ap, ◌∙◌, arith, subst, length-set, get_or-set_other}
-use Rattle.std.proofs.lemmas.Bool.{and_parts}
-use Rattle.std.proofs.lemmas.Bool.Decides.{nat_tests}
+use Rattle.std.specs.Prelude.{ℤ, pos, negsuc, ◌-ℤ◌}
+use Rattle.std.proofs.Common.{◌≡◌, ℕ, zero, suc, List, [], ◌∷◌, ◌++◌, ◌+◌, ◌-◌, ◌*◌, ◌%◌, ◌^◌, ◌<◌, ◌≤◌, ◌&&◌, Some, None, Option, length, set, get_or, refl, sym, ap, ◌∙◌, arith, subst, length-set, get_or-set_other}
 use Rattle.std.proofs.lemmas.Int.{ints}
-use Rattle.std.proofs.lemmas.List.Elements.{All-nil, All-cons}
-use Rattle.std.specs.List.{slice_get}
 use Rattle.machine_effect.proofs.FlowLemmas.{set_here}
 use Rattle.machine_effect.proofs.StateLemmas.{copy_saved, state_stays}
 use Rattle.machine_effect.proofs.StepLemmas.{copy_gives, difference_gives, sum_gives, word_low, writes_value}
@@ -13,26 +9,19 @@ use Rattle.machine_effect.specs.declared.effect.Access.{Access}
 use Rattle.machine_effect.specs.declared.effect.Atom.TheVariants.{Reg, Const, Loaded}
 use Rattle.machine_effect.specs.declared.effect.Effect.{Effect}
 use Rattle.machine_effect.specs.declared.effect.Value.{Value}
-use Rattle.machine_effect.specs.declared.flow.SpMove.TheVariants.{Keep}
-use Rattle.machine_effect.specs.declared.next.Next.TheVariants as next
-use Rattle.machine_effect.specs.declared.op.Op.TheVariants.{Copy, Add, Subtract}
+use Rattle.machine_effect.specs.declared.op.Op.TheVariants.{Add, Subtract}
 use Rattle.machine_effect.specs.declared.state.State.{State}
 use Rattle.machine_effect.specs.Applies.{Applies, IsState, address_of, link_of, with_link}
-use Rattle.machine_effect.specs.Flow.{flow_of}
 use Rattle.machine_effect.specs.Memory.{word_at, number_at}
 use Rattle.machine_effect.specs.Numbers.{unsigned}
-use Rattle.machine_effect.specs.Steps.{WritesOne}
 use Rattle.machine_effect.specs.Values.{reg_of}
-use Rattle.asm_target.proofs.PlaceLemmas.{fit_at}
-use Rattle.asm_target.specs.Architecture.{riscv64}
 use Rattle.asm_target.specs.Frames.{greatest_total}
 use Rattle.asm_target.specs.Runs.{LeadsOver}
 use Rattle.asm_target.specs.SequenceLaws.{below}
 use Rattle.asm_target_linked.specs.declared.instr.FrameOp.TheVariants.{Save, Load, Below, Above}
-use Rattle.asm_target_linked.specs.declared.instr.Instr.{Instr}
-use Rattle.asm_target_linked.specs.declared.instr.Instr.TheVariants.{Plain, Frame, Near, Far}
-use Rattle.asm_target_linked.specs.declared.instr.Op.TheVariants.{Nop, SaveAt, SetSp, LoadLink, Limit, Return}
-use Rattle.asm_target_linked.specs.Instr.{copy_of, effect_of, eight_at, frame_effect, linked, plain_effect, word}
+use Rattle.asm_target_linked.specs.declared.instr.Instr.TheVariants.{Frame}
+use Rattle.asm_target_linked.specs.declared.instr.Op.TheVariants.{SaveAt, SetSp, LoadLink}
+use Rattle.asm_target_linked.specs.Instr.{copy_of, eight_at, frame_effect, linked, plain_effect, word}
 use Rattle.asm_target_linked.specs.Frames.{enter_long, leave_long}
 
 -- the state but for its place

@@ -1,7 +1,7 @@
 -- The laws of selection.
 use Rattle.std.specs.Prelude.{All, IfSome, IsTrue, map, nat_lt, bytes_eq, codes}
 use Rattle.std.specs.List.{list_all}
-use Rattle.std.proofs.Common.{◌≡◌, ℕ, List, [], ◌∷◌, ◌<◌, ◌^◌, ◌≤◌, ◌&&◌, ◌||◌, Bool, true, false, not, Some, None, Option, Decides, refl, sym, ap, ◌∙◌, arith, subst, is_some, if◌then◌else◌}
+use Rattle.std.proofs.Common.{◌≡◌, ℕ, List, [], ◌∷◌, length, ◌<◌, ◌^◌, ◌≤◌, ◌&&◌, ◌||◌, Bool, true, false, not, Some, None, Option, Decides, refl, sym, ap, ◌∙◌, arith, subst, is_some, if◌then◌else◌}
 use Rattle.std.proofs.lemmas.Bool.{and_parts}
 use Rattle.std.proofs.lemmas.Bool.Decides.{nat_tests, Decides-and, Decides-by_and, not_from_Decides}
 use Rattle.std.proofs.lemmas.List.Elements.{All-nil, All-cons}
@@ -13,7 +13,8 @@ use Rattle.asm_target.specs.declared.frame.Site.{Site}
 use Rattle.asm_target.specs.declared.refer.Picked.{Picked}
 use Rattle.asm_target.specs.declared.select_no.SelectNo.TheVariants as no
 use Rattle.asm_target.specs.Aiming.{IsPickable, most_bytes}
-use Rattle.asm_target.specs.Selection.{CouldBe, DiffersInNumbers, IsRefused, IsSelected, NamesWords, without_numbers}
+use Rattle.asm_target.specs.References.{IsNamed, RefersTo}
+use Rattle.asm_target.specs.Selection.{CouldBe, IsRefused, IsSelected, NamesWords, without_numbers}
 use Rattle.asm_target_linked.specs.declared.instr.FrameOp.TheVariants.{Above}
 use Rattle.asm_target_linked.specs.declared.instr.Instr.{Instr}
 use Rattle.asm_target_linked.specs.declared.instr.Instr.TheVariants.{Frame}
@@ -53,6 +54,17 @@ pub few_bytes : (stmt : Stmt) (site : Site) (code : List (Picked Instr)) → sel
     → most_bytes linked aiming code ≤ 64
 few_bytes stmt site code is =
     subst (λ (c : List (Picked Instr)). most_bytes linked aiming c ≤ 64) (sym is.code_is) (omega arith)
+
+-- it refers to nothing
+pub refers : (stmt : Stmt) (site : Site) (code : List (Picked Instr)) → selection.becomes stmt site code
+    → All (RefersTo (IsNamed stmt.operands)) code
+refers stmt site code is =
+    let Named : Picked Instr → Type 0 = RefersTo (IsNamed stmt.operands) in
+    subst (All Named) (sym is.code_is)
+    (All-cons Named (plain (Frame Above is.constant)) [] (λ refer is. absurd (cc)) (All-nil Named))
+
+pub some : (stmt : Stmt) (site : Site) (code : List (Picked Instr)) → selection.becomes stmt site code → 0 < length code
+some stmt site code is = omega (arith, ap length is.code_is)
 
 bytes_same : (a b : List ℕ) → bytes_eq a b ≡ true → a ≡ b
 bytes_same a b is = (bytes_eq-Decides a b).0 is

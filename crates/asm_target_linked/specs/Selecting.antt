@@ -6,7 +6,6 @@ use Rattle.asm_target.specs.declared.select_no.SelectNo.{SelectNo}
 use Rattle.asm_target.specs.declared.select_no.SelectNo.TheVariants as no
 use Rattle.goasm_base.specs.declared.statement.Operand.TheVariants.{Imm, Word, Mem, Pair, Shifted}
 use Rattle.goasm_base.specs.declared.statement.Stmt.{Stmt}
-use Rattle.asm_target.specs.declared.frame.Site.{Site}
 use Rattle.asm_target.specs.declared.refer.Picked.{Picked}
 use Rattle.asm_target.specs.declared.width.Width.{Width}
 use Rattle.asm_target.specs.declared.width.Width.TheVariants.{Unknown}

@@ -189,6 +189,10 @@ impl Target for Linked {
 
     ghost few_bytes = { λ stmt site code frame is. selects.few_bytes stmt site code is };
 
+    ghost refers = { selects.refers };
+
+    ghost ends = { λ stmt site code end is. selects.some stmt site code is };
+
     ghost formed = { forms.formed };
 
     ghost same_lengths = { forms.same_lengths };
@@ -201,11 +205,15 @@ impl Target for Linked {
 
     ghost entering = { sequences.enters };
 
+    ghost enters_listed = { acts.enters_listed };
+
     ghost leaving = { sequences.leaves };
 
     ghost checking = { acts.checks };
 
     ghost check_pickable = { acts.check_pickable };
+
+    ghost stays_around = { λ frame is. acts.stays_around frame };
 
     ghost few_instructions = { acts.few_instructions };
 

@@ -7,7 +7,7 @@ use Rattle.std.proofs.lemmas.Bool.Decides.{nat_tests}
 use Rattle.std.proofs.lemmas.List.Sums.{position_or_len_is}
 use Rattle.std.proofs.lemmas.Option.{slice_get_within, get_or_from_slice_get, slice_get-get_or, slice_get_past, slice_get_cases}
 use Rattle.asm_target.specs.declared.body.Line.{Line}
-use Rattle.branch_size.specs.Goals.{stands_from, reaches_stmt}
+use Rattle.asm_target.specs.Goals.{stands_from, reaches_stmt}
 
 -- the first that passes
 position_at : {X : Type 0} (p : X → Bool) (xs : List X) (i : ℕ) (x : X) → slice_get xs i ≡ Some x → p x ≡ true

@@ -14,7 +14,7 @@ use Rattle.asm_target.specs.declared.refer.To.{To}
 use Rattle.asm_target.specs.declared.refer.To.TheVariants.{Stmt, Symbol, Entry, Grow, Block, Past}
 use Rattle.asm_target.specs.Aiming.{Aiming, IsPickable}
 use Rattle.asm_target.specs.InstructionSet.{InstructionSet}
-use Rattle.branch_size.specs.Goals.{goal_to, goal_part, line_of, is_outside, picked, HasGoal, IsBody}
+use Rattle.asm_target.specs.Goals.{goal_to, goal_part, line_of, is_outside, picked, HasGoal, IsBody}
 use Rattle.branch_size.specs.Rows.{row_of, rows_of, IsRow, AreRows}
 
 -- one more line

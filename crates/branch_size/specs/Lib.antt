@@ -1,4 +1,3 @@
-pub mod Goals
 pub mod Tables
 pub mod Rows
 pub mod Sizing

@@ -7,7 +7,7 @@ use Rattle.asm_target.specs.Aiming.{Aiming, CanReach, bytes_of}
 use Rattle.asm_target.specs.InstructionSet.{InstructionSet}
 use Rattle.least_forms.specs.Problem.{Problem}
 use Rattle.branch_size.specs.declared.rows.Row.{Row}
-use Rattle.branch_size.specs.Goals.{goal_of}
+use Rattle.asm_target.specs.Goals.{goal_of}
 
 module _ {Instr : Type 0} (set : InstructionSet Instr) (aiming : Aiming Instr) where
   -- a line's instruction, the line that it refers to, and the lengths of its two forms

@@ -4,7 +4,7 @@ use Rattle.std.specs.List.{slice_get}
 use Rattle.asm_target.specs.declared.body.Line.{Line}
 use Rattle.asm_target.specs.declared.frame.Guard.{Guard}
 use Rattle.branch_size.specs.declared.goals.Goals.{Goals}
-use Rattle.branch_size.specs.Goals.{block_of, stands_from}
+use Rattle.asm_target.specs.Goals.{block_of, stands_from}
 
 -- the table has the lines of the function's references
 pub record HasGoals {Instr : Type 0} (guard : Guard Instr) (code : List (Line Instr)) (goals : Goals) : Type 0 where

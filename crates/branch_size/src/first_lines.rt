@@ -1,6 +1,6 @@
 ghost use Rattle.std.specs.Prelude.{◌≡◌, ℕ, ◌+◌, ◌^◌, ◌<◌, ◌≤◌, IfOk, OnOk, max, position, slice_index, vec_len};
 ghost use Rattle.std.specs.List.{slice_get};
-ghost use Rattle.branch_size.specs.Goals.{stands_from};
+ghost use Rattle.asm_target.specs.Goals.{stands_from};
 
 use asm_target::Line;
 use goasm_base::Memory;

@@ -2,7 +2,7 @@ ghost use Rattle.std.specs.Prelude.{◌≡◌, ◌+◌, ◌<◌, IfOk, length};
 ghost use Rattle.std.specs.List.{slice_get};
 ghost use Rattle.asm_target.specs.declared.body.Line.{Line};
 ghost use Rattle.asm_target.specs.Frames.{IsFrame};
-ghost use Rattle.branch_size.specs.Goals.{block_of, goal_of};
+ghost use Rattle.asm_target.specs.Goals.{block_of, goal_of};
 ghost use Rattle.branch_size.specs.Tables.{HasGoals};
 
 use crate::first_lines::firsts;

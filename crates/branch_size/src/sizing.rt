@@ -7,7 +7,7 @@ ghost use Rattle.least_forms.specs.declared.sizes.Sizes.{Sizes};
 ghost use Rattle.least_forms.specs.Assignment.{IsLeast};
 ghost use Rattle.least_forms.specs.Problem.{HasRoom};
 ghost use Rattle.branch_size.specs.declared.size_no.SizeNo.TheVariants.{B1};
-ghost use Rattle.branch_size.specs.Goals.{IsBody};
+ghost use Rattle.asm_target.specs.Goals.{IsBody};
 ghost use Rattle.branch_size.specs.Sizing.{branches_of, IsSized, IsOutOfReach};
 
 use crate::code::Code;

@@ -1,7 +1,6 @@
 -- Parts that are small enough for an image below 2 ^ 32 bytes.
-use Rattle.std.proofs.Common.{◌≡◌, ℕ, ◌+◌, ◌*◌, ◌<◌, ◌≤◌, ◌^◌, List, ◌∷◌, length, ◌∙◌, ap, arith, length-append}
+use Rattle.std.proofs.Common.{◌≡◌, ◌+◌, ◌*◌, ◌<◌, ◌≤◌, ◌^◌, List, ◌∷◌, length, ◌∙◌, ap, arith, length-append}
 use Rattle.std.specs.List.{flat_map}
-use Rattle.byte_layout.specs.Joined.{aligned}
 use Rattle.byte_layout.proofs.JoinedLemmas.{aligned_near}
 use Rattle.elf_image.specs.declared.parts.SymbolPart.{SymbolPart}
 use Rattle.elf_image.specs.declared.parts.ImageParts.{ImageParts}

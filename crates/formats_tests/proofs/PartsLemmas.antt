@@ -1,12 +1,12 @@
 -- One function is enough for an image.
-use Rattle.std.proofs.Common.{◌≡◌, ℕ, ◌+◌, ◌*◌, ◌<◌, ◌≤◌, ◌^◌, Bool, true, false, ◌&&◌, ◌||◌, nat_eq, List, [], ◌∷◌, ◌++◌, length, None, IsTrue, refl, sym, ◌∙◌, ap, subst, arith, length-append}
+use Rattle.std.proofs.Common.{◌≡◌, ℕ, ◌+◌, ◌*◌, ◌<◌, ◌≤◌, ◌^◌, false, ◌&&◌, ◌||◌, List, [], ◌∷◌, ◌++◌, length, None, IsTrue, refl, sym, ◌∙◌, ap, subst, arith}
 use Rattle.std.specs.Prelude.{All}
 use Rattle.std.specs.List.{flat_map, list_any}
 use Rattle.std.proofs.lemmas.List.Elements.{All-cons, All-nil}
 use Rattle.elf_image.specs.declared.parts.SymbolPart.{SymbolPart}
 use Rattle.elf_image.specs.declared.parts.ImageParts.{ImageParts}
 use Rattle.elf_image.specs.Parts.{IsPart, AreOrdered, is_entry}
-use Rattle.elf_image.specs.Written.{name_bytes, image_bytes, AreParts}
+use Rattle.elf_image.specs.Written.{name_bytes, AreParts}
 use Rattle.elf_image.proofs.ShortLemmas.{short_parts}
 
 abbrev main_p : List ℕ

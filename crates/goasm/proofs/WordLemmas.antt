@@ -1,4 +1,4 @@
-use Rattle.std.proofs.Common.{◌≡◌, ℕ, zero, suc, List, [], ◌∷◌, ◌++◌, take, Option, Some, None, slice_get, refl, ap}
+use Rattle.std.proofs.Common.{◌≡◌, ℕ, zero, suc, List, [], ◌∷◌, ◌++◌, take, Some, None, slice_get, refl, ap}
 
 -- the words up to a number, and the word with that number
 pub take_on : (words : List (List ℕ)) (number : ℕ) (word : List ℕ)

@@ -1,5 +1,5 @@
 -- What the letters of a flag rule tell.
-use Rattle.std.proofs.Common.{◌≡◌, ℕ, Bool, false, Option, Some, None, refl, inl, inr}
+use Rattle.std.proofs.Common.{◌≡◌, ℕ, Bool, false, Some, None, refl, inl, inr}
 use Rattle.machine_effect.specs.declared.state.Flags.{Flags}
 use Rattle.machine_effect.specs.declared.effect.Atom.{Atom}
 use Rattle.machine_effect.specs.declared.flag_rule.FlagRule.{FlagRule}

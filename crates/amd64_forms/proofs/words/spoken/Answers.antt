@@ -1,5 +1,4 @@
 use Rattle.std.proofs.Common.{◌≡◌, ◌⊎◌, Some, sym, ◌∙◌, ap, inl, inr}
-use Rattle.amd64_table.specs.declared.mnemonic.Mnemonic.{Mnemonic}
 use Rattle.amd64_forms.specs.declared.rows.Spoken.{Spoken}
 use Rattle.amd64_forms.specs.declared.rows.Spoken.TheVariants.{Listed}
 use Rattle.amd64_forms.specs.Words.{Says}

@@ -1,4 +1,4 @@
-use Rattle.std.proofs.Common.{◌≡◌, ℕ, ℤ, Option, Some, IfSome, sym, ◌∙◌, ap, subst, rules, FitsSigned, w64}
+use Rattle.std.proofs.Common.{◌≡◌, ℕ, ℤ, Option, IfSome, sym, ◌∙◌, ap, subst, rules, FitsSigned, w64}
 use Rattle.std.proofs.lemmas.Int.{to_z-of_z}
 use Rattle.machine_effect.specs.Numbers.{moved_by}
 use Rattle.asm_target.specs.declared.refer.Part.{Part}

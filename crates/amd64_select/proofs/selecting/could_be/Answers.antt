@@ -1,5 +1,5 @@
 use Rattle.std.specs.Prelude.{map}
-use Rattle.std.proofs.Common.{◌≡◌, Bool, true, List, Some, None, refl, sym, subst}
+use Rattle.std.proofs.Common.{◌≡◌, true, List, Some, None, refl, sym, subst}
 use Rattle.goasm_base.specs.declared.statement.Operand.{Operand}
 use Rattle.amd64_select.specs.Operands.{taken}
 use Rattle.amd64_select.specs.Selecting.{Picks}

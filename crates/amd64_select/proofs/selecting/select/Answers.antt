@@ -1,5 +1,5 @@
 use Rattle.std.specs.Prelude.{map}
-use Rattle.std.proofs.Common.{◌≡◌, Bool, false, List, Option, sym, ◌∙◌, ap, subst}
+use Rattle.std.proofs.Common.{◌≡◌, false, List, Option, sym, ◌∙◌, ap, subst}
 use Rattle.goasm_base.specs.declared.statement.Operand.{Operand}
 use Rattle.asm_target.specs.declared.refer.Refer.{Refer}
 use Rattle.amd64_select.specs.Operands.{taken}

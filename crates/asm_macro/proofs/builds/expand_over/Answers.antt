@@ -1,5 +1,4 @@
 use Rattle.std.proofs.Common.{◌≡◌, ◌+◌, ◌∙◌}
-use Rattle.asm_directive.specs.Names.{nothing}
 use Rattle.asm_directive.specs.LineNames.{line_names_of}
 use Rattle.asm_macro.specs.Builds.{greatest_file, numbered}
 use Rattle.asm_directive.specs.Views.{names_of}

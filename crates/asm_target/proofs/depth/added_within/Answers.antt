@@ -1,5 +1,5 @@
 use Rattle.std.proofs.Common.{◌≡◌, sym, ◌∙◌, ◌<◌, ◌+◌, ◌-◌, ap, map, arith}
-use Rattle.asm_target.specs.DepthChange.{DepthView, added_within, depth_view_of}
+use Rattle.asm_target.specs.DepthChange.{added_within, depth_view_of}
 use Rattle.asm_target.proofs.DepthLemmas.{kept, turned}
 use Rattle.asm_target.proofs.depth.added_within.Goals as goal
 

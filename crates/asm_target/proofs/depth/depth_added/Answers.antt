@@ -1,7 +1,6 @@
-use Rattle.std.proofs.Common.{◌≡◌, pos, ◌-ℤ◌, SFits, w64, to_z, of_z, ap, ◌∙◌, sym, arith}
+use Rattle.std.proofs.Common.{◌≡◌, pos, ◌-ℤ◌, SFits, w64, to_z, of_z, ◌∙◌, arith}
 use Rattle.std.proofs.lemmas.Int.{ints, to_z-of_z}
 use Rattle.machine_effect.specs.Shapes.{IsStackDistance}
-use Rattle.asm_target.specs.DepthChange.{depth_added}
 use Rattle.asm_target.proofs.depth.depth_added.Goals as goal
 
 pub overflow_sub-result : goal.overflow_sub-result

@@ -1,5 +1,5 @@
-use Rattle.std.proofs.Common.{◌≡◌, ℕ, ◌⊎◌, inl, inr, Some, None, Option, sym, ap, ◌∙◌, subst}
-use Rattle.std.specs.Prelude.{Result, Ok, Err, IfOk, IfErr, MatchResult}
+use Rattle.std.proofs.Common.{◌≡◌, ◌⊎◌, inl, inr, None, sym, ◌∙◌, subst}
+use Rattle.std.specs.Prelude.{Result, Ok, Err, IfErr}
 use Rattle.asm_target.specs.declared.frame.Site.{Site}
 use Rattle.asm_target.specs.declared.select_no.SelectNo.{SelectNo}
 use Rattle.asm_target.specs.declared.select_no.SelectNo.TheVariants as no

@@ -1,5 +1,5 @@
--- Which line of a function an instruction refers to.
-use Rattle.std.specs.Prelude.{◌≡◌, ℕ, ◌+◌, ◌-◌, ◌<◌, List, All, Bool, true, false, nat_le, length, position, Option, Some, None, if◌then◌else◌}
+-- Which line of a function an instruction refers to, and what holds of the lines of a whole function.
+use Rattle.std.specs.Prelude.{◌≡◌, ℕ, ◌+◌, ◌-◌, ◌<◌, List, All, Bool, true, false, nat_le, length, map, position, Option, Some, None, if◌then◌else◌}
 use Rattle.asm_target.specs.declared.body.Line.{Line}
 use Rattle.asm_target.specs.declared.frame.Guard.{Guard}
 use Rattle.asm_target.specs.declared.refer.Part.{Part}
@@ -8,7 +8,8 @@ use Rattle.asm_target.specs.declared.refer.Picked.{Picked}
 use Rattle.asm_target.specs.declared.refer.Refer.{Refer}
 use Rattle.asm_target.specs.declared.refer.To.{To}
 use Rattle.asm_target.specs.declared.refer.To.TheVariants.{Stmt, Symbol, Entry, Grow, Block, Past}
-use Rattle.asm_target.specs.Aiming.{Aiming, IsPickable}
+use Rattle.asm_target.specs.Aiming.{Aiming, IsPickable, most_bytes}
+use Rattle.asm_target.specs.InstructionSet.{InstructionSet}
 
 -- the line's statement has this number or a greater one
 abbrev pub reaches_stmt : ℕ → Option ℕ → Bool
@@ -54,6 +55,10 @@ module _ {Instr : Type 0} where
 
   abbrev pub picked : Line Instr → Picked Instr
   picked line = record { instr = line.instr; refer = line.refer }
+
+  -- how many bytes the lines have with every branch in its long form
+  abbrev pub longest : InstructionSet Instr → Aiming Instr → List (Line Instr) → ℕ
+  longest set aiming code = most_bytes set aiming (map picked code)
 
   -- what a line refers to inside its function is one of the lines
   abbrev pub HasGoal : Guard Instr → List (Line Instr) → Line Instr → Type 0
