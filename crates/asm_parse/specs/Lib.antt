@@ -9,4 +9,5 @@ pub mod Steps
 pub mod Resolve
 pub mod Parse
 pub mod Valid
+pub mod Placed
 pub mod First
