@@ -1,7 +1,7 @@
 -- The laws of selection, for amd64.
-use Rattle.std.specs.Prelude.{◌⊎◌, ◌||◌, All, map, if◌then◌else◌}
+use Rattle.std.specs.Prelude.{◌⊎◌, ◌||◌, ◌==◌, All, map, if◌then◌else◌}
 use Rattle.std.specs.List.{flat_map}
-use Rattle.std.proofs.Common.{◌≡◌, ℕ, ℤ, pos, ◌+ℤ◌, ◌+◌, ◌*◌, ◌<◌, ◌≤◌, Bool, true, false, List, [], ◌∷◌, ◌++◌, length, Option, Some, None, refl, sym, ◌∙◌, ap, subst, arith, rules, inl, inr}
+use Rattle.std.proofs.Common.{◌≡◌, ℕ, ℤ, pos, ◌+ℤ◌, ◌+◌, ◌*◌, ◌<◌, ◌≤◌, Bool, true, false, List, [], ◌∷◌, ◌++◌, length, get_or, Option, Some, None, refl, sym, ◌∙◌, ap, subst, arith, rules, inl, inr}
 use Rattle.std.proofs.lemmas.List.{length-append, length-map}
 use Rattle.std.proofs.lemmas.List.Elements.{All-append, All-cons, All-head, All-nil, All-tail}
 use Rattle.std.proofs.lemmas.Grind.{flat_map-append}
@@ -272,11 +272,12 @@ named _ refer is = absurd (cc)
 
 is_named : (ops : List Operand) (refer : Refer) → refers ops ≡ Some refer → IsNamed ops refer.to
 is_named [] refer is = absurd (cc)
-is_named (op ∷ ops) refer is = by (refer_of op) refl is
+is_named (op ∷ ops) refer is = by (refer_of op) refl is (λ more. is_named ops refer more)
   where
-    by : (r : Option Refer) → refer_of op ≡ r → first_refer r (refers ops) ≡ Some refer → IsNamed (op ∷ ops) refer.to
-    by None at is = inr (is_named ops refer is)
-    by (Some r) at is = inl (named op refer (at ∙ is))
+    by : (r : Option Refer) → refer_of op ≡ r → first_refer r (refers ops) ≡ Some refer
+        → (refers ops ≡ Some refer → IsNamed ops refer.to) → IsNamed (op ∷ ops) refer.to
+    by None at is others = inr (others is)
+    by (Some r) at is others = inl (named op refer (at ∙ is))
 
 alone_refers : (P : To → Type 0) (code : List Instr) → All (RefersTo P) (map alone code)
 alone_refers P [] = All-nil (RefersTo P)
@@ -288,6 +289,7 @@ refers_named stmt site code becomes = by (kind_by becomes.spoken stmt site code 
   where
     Named : Picked Instr → Type 0
     Named = RefersTo (IsNamed stmt.operands)
+
     by : Kind stmt site code → All Named code
     by (none empty) = subst (All Named) (sym empty) (All-nil Named)
     by (some s i picks told) =
@@ -298,18 +300,24 @@ refers_named stmt site code becomes = by (kind_by becomes.spoken stmt site code 
 
 -- NOP, PCDATA and FUNCDATA alone become nothing
 
+abbrev begins : ℕ → List ℕ → Bool
+begins letter text = get_or text 0 0 == letter
+
+true_false : true ≡ false → ⊥
+true_false is = cc
+
 meaning_some : (name : Alias) → spoken.Nothing ≡ meaning_of name → ¬ IsEnd (alias_text name)
 unfolding alias_text meaning_of
-meaning_some alias.Nop is (inl end) = cc
-meaning_some alias.Nop is (inr (inl end)) = cc
-meaning_some alias.Nop is (inr (inr end)) = cc
-meaning_some alias.Pcdata is (inl end) = cc
-meaning_some alias.Pcdata is (inr (inl end)) = cc
-meaning_some alias.Pcdata is (inr (inr end)) = cc
-meaning_some alias.Funcdata is (inl end) = cc
-meaning_some alias.Funcdata is (inr (inl end)) = cc
-meaning_some alias.Funcdata is (inr (inr end)) = cc
-meaning_some _ is end = cc
+meaning_some alias.Nop is (inl end) = true_false (ap (begins 78) end)
+meaning_some alias.Nop is (inr (inl end)) = true_false (ap (begins 78) end)
+meaning_some alias.Nop is (inr (inr end)) = true_false (ap (begins 78) end)
+meaning_some alias.Pcdata is (inl end) = true_false (ap (begins 80) end)
+meaning_some alias.Pcdata is (inr (inl end)) = true_false (ap (begins 80) end)
+meaning_some alias.Pcdata is (inr (inr end)) = true_false (ap (begins 80) end)
+meaning_some alias.Funcdata is (inl end) = true_false (ap (begins 70) end)
+meaning_some alias.Funcdata is (inr (inl end)) = true_false (ap (begins 70) end)
+meaning_some alias.Funcdata is (inr (inr end)) = true_false (ap (begins 70) end)
+meaning_some _ is _ = cc
 
 says_some : (text : List ℕ) → IsEnd text → ¬ Says text spoken.Nothing
 unfolding Says

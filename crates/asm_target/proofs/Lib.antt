@@ -13,3 +13,4 @@ pub mod LevelLemmas
 pub mod BlockLemmas
 pub mod CheckLemmas
 pub mod CheckLaws
+pub mod LongestLemmas

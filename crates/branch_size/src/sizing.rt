@@ -1,13 +1,12 @@
-ghost use Rattle.std.specs.Prelude.{◌≡◌, ℕ, ◌<◌, IfOk, length};
+ghost use Rattle.std.specs.Prelude.{◌≡◌, ℕ, ◌^◌, ◌<◌, IfOk, length};
 ghost use Rattle.std.specs.List.{slice_get};
 ghost use Rattle.goasm_base.specs.declared.pos.Pos.{Pos};
 ghost use Rattle.asm_target.specs.declared.body.Line.{Line};
 ghost use Rattle.asm_target.specs.Frames.{IsFrame};
 ghost use Rattle.least_forms.specs.declared.sizes.Sizes.{Sizes};
 ghost use Rattle.least_forms.specs.Assignment.{IsLeast};
-ghost use Rattle.least_forms.specs.Problem.{HasRoom};
 ghost use Rattle.branch_size.specs.declared.size_no.SizeNo.TheVariants.{B1};
-ghost use Rattle.asm_target.specs.Goals.{IsBody};
+ghost use Rattle.asm_target.specs.Goals.{IsBody, longest};
 ghost use Rattle.branch_size.specs.Sizing.{branches_of, IsSized, IsOutOfReach};
 
 use crate::code::Code;
@@ -29,7 +28,7 @@ use std::alloc::Global;
 pub fn size<T: Target>(alloc: Global, body: &Body<T::Instr>) -> Result<Sizes, SizeNo>
     requires frame { IsFrame T.MACHINE body.now.frame }
     requires body { IsBody T.fits T.aiming (T.check body.now.frame) body.now.code }
-    requires room { HasRoom (branches_of T.instructions T.fits T.aiming T.QUANTUM (T.check body.now.frame) body.now.code) }
+    requires room { longest T.instructions T.aiming body.now.code < 2 ^ 32 }
     ensures sized { IfOk result
         (IsSized (branches_of T.instructions T.fits T.aiming T.QUANTUM (T.check body.now.frame) body.now.code)) }
     ensures out_of_reach { (pos : Pos) (distance : ℕ) → result ≡ Err (B1 pos distance)

@@ -1,5 +1,6 @@
-ghost use Rattle.std.specs.Prelude.{◌≡◌, ℕ, ◌++◌, length, map, false, None, IfOk, OnOk};
+ghost use Rattle.std.specs.Prelude.{◌≡◌, ℕ, ◌++◌, ◌^◌, ◌<◌, length, map, false, None, IfOk, OnOk};
 ghost use Rattle.asm_target.specs.Frames.{IsFrame};
+ghost use Rattle.asm_target.specs.Goals.{IsBody, longest};
 ghost use Rattle.goasm_base.specs.Statements.{IsValidFunction};
 ghost use Rattle.stack_split.specs.FrameSizes.{frame_for};
 ghost use Rattle.obj_rewrite.specs.Draft.{IsDraft, written};
@@ -23,6 +24,9 @@ use std::alloc::Global;
 /// grow stands behind the check or ends the function, as the target has it. Depths are in bytes; behind a RET the depth is again
 /// the one before what leaves the frame.
 ///
+/// Each instruction can hold what it refers to, which is an instruction of the function or outside of it, and with every branch in its
+/// long form all have fewer than 2^32 bytes.
+///
 /// `RW1` comes exactly where the frame would have more than 1,048,576 bytes. Otherwise `Select` comes exactly where a statement
 /// becomes no instructions, for the first such one; `Memory` comes only for want of memory.
 pub fn rewrite<T: Target>(alloc: Global, func: &Function) -> Result<Body<T::Instr>, RewriteNo>
@@ -30,6 +34,9 @@ pub fn rewrite<T: Target>(alloc: Global, func: &Function) -> Result<Body<T::Inst
     ensures body { let frame = frame_for T.MACHINE func.now in
         IfOk result (λ body. spec.IsRewritten (rules_of T.instructions T.SHAPE T.begins T.selection frame) func.now frame
         (T.check frame) (T.entry frame) body) }
+    ensures frame { IfOk result (λ body. IsFrame T.MACHINE body.frame) }
+    ensures lines { IfOk result (λ body. IsBody T.fits T.aiming (T.check body.frame) body.code) }
+    ensures room { IfOk result (λ body. longest T.instructions T.aiming body.code < 2 ^ 32) }
     ensures large { (place : Pos) (total : ℕ) → result ≡ Err (RewriteNo.RW1 place total)
         → spec.IsTooLarge T.MACHINE func.now place total }
     ensures refused { let frame = frame_for T.MACHINE func.now in
@@ -53,6 +60,9 @@ fn rewrite_in<T: Target>(
     requires frame { IsFrame T.MACHINE frame }
     ensures body { IfOk result (λ body. spec.IsRewritten (rules_of T.instructions T.SHAPE T.begins T.selection frame) func.now
         frame (T.check frame) (T.entry frame) body) }
+    ensures frame { IfOk result (λ body. IsFrame T.MACHINE body.frame) }
+    ensures lines { IfOk result (λ body. IsBody T.fits T.aiming (T.check body.frame) body.code) }
+    ensures room { IfOk result (λ body. longest T.instructions T.aiming body.code < 2 ^ 32) }
     ensures refused { (place : Pos) (why : SelectNo) → result ≡ Err (RewriteNo.Select place why)
         → spec.IsRefusedAt (rules_of T.instructions T.SHAPE T.begins T.selection frame) func.now frame (T.check frame)
         (T.entry frame) place why }

@@ -1,4 +1,4 @@
-use Rattle.std.proofs.Common.{◌≡◌, pos, ◌-ℤ◌, SFits, w64, to_z, of_z, ◌∙◌, arith}
+use Rattle.std.proofs.Common.{pos, ◌-ℤ◌, SFits, w64, arith}
 use Rattle.std.proofs.lemmas.Int.{ints, to_z-of_z}
 use Rattle.machine_effect.specs.Shapes.{IsStackDistance}
 use Rattle.asm_target.proofs.depth.depth_added.Goals as goal

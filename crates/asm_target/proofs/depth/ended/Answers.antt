@@ -1,4 +1,4 @@
-use Rattle.std.proofs.Common.{◌≡◌, ap, ◌∙◌, ◌-◌, ◌≤◌, ◌<◌, length, map, arith}
+use Rattle.std.proofs.Common.{ap, ◌∙◌, ◌≤◌, ◌<◌, length, map, arith}
 use Rattle.std.specs.Bool.{if◌then◌else◌}
 use Rattle.asm_target.specs.DepthChange.{added_within, depth_view_of}
 use Rattle.asm_target.specs.Sequences.{depth_added_by}

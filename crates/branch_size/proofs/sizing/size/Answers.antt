@@ -1,6 +1,8 @@
 use Rattle.std.proofs.Common.{◌≡◌, Err, sym, ap, subst}
-use Rattle.branch_size.specs.Rows.{AreRows}
+use Rattle.least_forms.specs.Problem.{HasRoom}
+use Rattle.branch_size.specs.Rows.{AreRows, problem_of}
 use Rattle.branch_size.specs.Sizing.{IsOutOfReach, branches_of}
+use Rattle.branch_size.proofs.RoomLemmas.{has_room}
 use Rattle.branch_size.proofs.RowLemmas.{rows_right}
 use Rattle.branch_size.proofs.SizeLemmas.{same_lost, lost_line, out_of_reach}
 use Rattle.branch_size.proofs.sizing.size.Goals as goal
@@ -10,6 +12,14 @@ least_sizes-requires-clause-fine g c =
     let guard = g.T.Target.check c.args.body.now.frame in
     subst (AreRows g.T.Processor.instructions g.T.Processor.fits g.T.Target.aiming) (sym c.in_ok-make_rows.ensures)
     (rows_right guard c.args.body.now.code g.T.Processor.instructions g.T.Processor.fits g.T.Target.aiming c.requires.body)
+
+pub least_sizes-requires-clause-room : goal.least_sizes-requires-clause-room
+least_sizes-requires-clause-room g c =
+    let set = g.T.Processor.instructions in
+    let fits = g.T.Processor.fits in
+    let guard = g.T.Target.check c.args.body.now.frame in
+    subst (λ rows. HasRoom (problem_of set fits g.T.Target.aiming g.T.Processor.QUANTUM rows)) (sym c.in_ok-make_rows.ensures)
+    (has_room set fits g.T.Target.aiming g.T.Processor.QUANTUM guard c.args.body.now.code c.requires.room)
 
 pub pos_of-requires : goal.pos_of-requires
 pos_of-requires g c =

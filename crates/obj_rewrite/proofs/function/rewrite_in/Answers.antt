@@ -4,6 +4,7 @@ use Rattle.obj_rewrite.specs.Draft.{written}
 use Rattle.obj_rewrite.specs.Rewriting.{all_added, code_of, line_of, rules_of}
 use Rattle.obj_rewrite.specs.Rewritten.{IsUnwritten, IsWritten, closing, opened}
 use Rattle.obj_rewrite.specs.declared.rewrite_no.RewriteNo.TheVariants.{Select}
+use Rattle.obj_rewrite.proofs.BodyLemmas.{frame_laws, has_room, is_body, pick_laws}
 use Rattle.obj_rewrite.proofs.function.rewrite_in.Goals as goal
 
 pub returns-in_err-add_function-clause-refused : goal.returns-in_err-add_function-clause-refused
@@ -39,3 +40,31 @@ returns-clause-body g c =
             ++ map (λ pick. line_of pick c.args.func.now.pos 0 None) (closing check (g.T.Target.check c.args.frame))) c.checked-check.ensures;
       };
     }
+
+pub returns-clause-lines : goal.returns-clause-lines
+returns-clause-lines g c =
+    let set = g.T.Processor.instructions in
+    let fits = g.T.Processor.fits in
+    let aiming = g.T.Target.aiming in
+    let table = rules_of set g.T.Processor.SHAPE g.T.Target.begins g.T.Target.selection c.args.frame in
+    let picks = pick_laws set fits aiming g.T.Processor.SHAPE g.T.Target.begins g.T.Target.selection g.T.Processor.MACHINE c.args.frame
+    c.requires.frame g.met.T.Target.pickable g.met.T.Target.few_bytes g.met.T.Target.refers g.met.T.Target.ends in
+    let frames = frame_laws set fits aiming g.T.Processor.SHAPE g.T.Target.begins g.T.Target.selection g.T.Processor.MACHINE c.args.frame
+    c.requires.frame g.T.Target.check g.T.Target.entry g.met.T.Target.enters_listed g.met.T.Target.check_pickable
+    g.met.T.Target.stays_around g.met.T.Target.few_instructions in
+    is_body set fits aiming table c.args.func.now c.args.frame (g.T.Target.check c.args.frame) (g.T.Target.entry c.args.frame) picks frames
+    c.requires.valid.0 c.requires.valid.1 _ (returns-clause-body g c).lines
+
+pub returns-clause-room : goal.returns-clause-room
+returns-clause-room g c =
+    let set = g.T.Processor.instructions in
+    let fits = g.T.Processor.fits in
+    let aiming = g.T.Target.aiming in
+    let table = rules_of set g.T.Processor.SHAPE g.T.Target.begins g.T.Target.selection c.args.frame in
+    let picks = pick_laws set fits aiming g.T.Processor.SHAPE g.T.Target.begins g.T.Target.selection g.T.Processor.MACHINE c.args.frame
+    c.requires.frame g.met.T.Target.pickable g.met.T.Target.few_bytes g.met.T.Target.refers g.met.T.Target.ends in
+    let frames = frame_laws set fits aiming g.T.Processor.SHAPE g.T.Target.begins g.T.Target.selection g.T.Processor.MACHINE c.args.frame
+    c.requires.frame g.T.Target.check g.T.Target.entry g.met.T.Target.enters_listed g.met.T.Target.check_pickable
+    g.met.T.Target.stays_around g.met.T.Target.few_instructions in
+    has_room set fits aiming table c.args.func.now c.args.frame (g.T.Target.check c.args.frame) (g.T.Target.entry c.args.frame) picks frames
+    c.requires.valid.0 g.T.Processor.QUANTUM g.met.T.Target.formed g.met.T.Processor.lengths c.requires.valid.1 _ (returns-clause-body g c).lines
