@@ -57,7 +57,7 @@ pub known_more : (before after : ℕ) (state : State) → before ≤ after → I
 known_more before after state within known =
     symbols_known before after state state.symbols (λ key there. there) (omega (arith, known.count)) within known
 
-labelled_lines : (gathered : Gathered) (labels : List (List ℕ)) → (labelled gathered labels).lines ≡ gathered.lines
+pub labelled_lines : (gathered : Gathered) (labels : List (List ℕ)) → (labelled gathered labels).lines ≡ gathered.lines
 labelled_lines gathered [] = refl
 labelled_lines gathered (label ∷ labels) = labelled_lines (with_label gathered label) labels
 

@@ -5,6 +5,7 @@ pub mod LabelLemmas
 pub mod ReadLemmas
 pub mod SymbolLemmas
 pub mod KnownLemmas
+pub mod PlacedLemmas
 pub mod TotalLemmas
 pub mod FirstLists
 pub mod FirstLabels

@@ -9,7 +9,6 @@ use Rattle.asm_parse.specs.declared.lines.Body.{Body}
 use Rattle.asm_parse.specs.declared.lines.Line.{Line}
 use Rattle.asm_parse.specs.declared.parse_no.ParseNo.{ParseNo}
 use Rattle.asm_parse.specs.declared.parse_no.ParseNo.TheVariants.{P1, P2, P3, P4, P5, P6, P7, P8, P9, P10, Memory}
-use Rattle.asm_parse.specs.declared.progress.Head.{Head}
 use Rattle.asm_parse.specs.declared.progress.PlacedData.{PlacedData}
 use Rattle.asm_parse.specs.declared.progress.PlacedGlobal.{PlacedGlobal}
 use Rattle.asm_parse.specs.declared.unit.Unit.{Unit as Said}

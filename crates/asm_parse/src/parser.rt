@@ -1,4 +1,4 @@
-ghost use Rattle.std.specs.Prelude.{◌≡◌, ◌≢◌, ◌≤◌, List, [], ℕ, Bool, length, sum_by, IfOk, IfErr, OnOk};
+ghost use Rattle.std.specs.Prelude.{◌≡◌, ◌≢◌, ◌≤◌, List, [], ℕ, Bool, All, length, sum_by, IfOk, IfErr, OnOk, MatchResult};
 ghost use Rattle.asm_parse.specs.Refusals.{Gives, Moves};
 ghost use Rattle.asm_parse.specs.Steps.{steps};
 ghost use Rattle.asm_parse.specs.Ahead.{seen};
@@ -6,6 +6,7 @@ ghost use Rattle.asm_parse.specs.Parse as spec;
 ghost use Rattle.asm_parse.specs.Words.{IsAskable, Tells};
 ghost use Rattle.asm_parse.specs.Known.{IsKnown};
 ghost use Rattle.asm_parse.specs.Valid.{IsValidUnit};
+ghost use Rattle.asm_parse.specs.Placed.{TokenIn, UnitIn, NoIn, StateIn};
 ghost use Rattle.asm_parse.specs.First.{refusal_of, IsFirstRefusal, of_statements, of_names};
 ghost use Rattle.goasm_base.specs.Refusals.{Judges};
 
@@ -26,7 +27,7 @@ const NOTHING_AHEAD: Outlook = Outlook {
 ///
 /// They are refused exactly where something in them is, with the first refusal: by statements, and at one statement the
 /// one with the lowest number. What names stand for (P3 and P8) is judged only where nothing else is refused. Only want
-/// of memory may come in place of any answer.
+/// of memory may come in place of any answer. Each place in a unit or a refusal is in a file that a token is in.
 pub fn parse<W: Fn(&[u8]) -> bool>(
     alloc: Global,
     tokens: &Tokens,
@@ -41,6 +42,7 @@ pub fn parse<W: Fn(&[u8]) -> bool>(
         → IfErr result (λ refused. refused ≢ ParseNo.Memory → IsFirstRefusal word tokens.now.list refused) }
     ensures none { (word : List ℕ → Bool) → Tells (W.post is_word) word
         → OnOk result ((of_statements word tokens.now.list ≡ []) × (of_names word tokens.now.list ≡ [])) }
+    ensures placed { (count : ℕ) → All (TokenIn count) tokens.now.list → MatchResult result (UnitIn count) (NoIn count) }
 {
     let statements = statements_in(alloc, tokens.list.as_slice())?;
     let progress = read_all(alloc, statements.as_slice(), &is_word)?;
@@ -68,6 +70,7 @@ fn read_all<'a, W: Fn(&[u8]) -> bool>(
     requires { IsAskable (W.pre is_word.now) }
     ensures exact { (word : List ℕ → Bool) → Tells (W.post is_word.now) word → Gives (spec.read_of word (seen statements.now)) result }
     ensures known { IfOk result (IsKnown (sum_by length (seen statements.now))) }
+    ensures placed { (count : ℕ) → All (All (TokenIn count)) (seen statements.now) → MatchResult result (StateIn count) (NoIn count) }
 {
     let mut progress = Progress::new(alloc);
     read_into(alloc, &mut progress, statements, is_word)?;
@@ -85,6 +88,7 @@ fn read_into<'a, W: Fn(&[u8]) -> bool>(
     requires { IsAskable (W.pre is_word.now) }
     ensures exact { (word : List ℕ → Bool) → Tells (W.post is_word.now) word → Moves (steps word progress.old (seen statements.now)) result progress.new }
     ensures known { OnOk result (IsKnown 0 progress.old → IsKnown (sum_by length (seen statements.now)) progress.new) }
+    ensures placed { (count : ℕ) → All (All (TokenIn count)) (seen statements.now) → StateIn count progress.old → MatchResult result (λ _. StateIn count progress.new) (NoIn count) }
 {
     let mut outlooks = outlooks(alloc, statements)?;
     for statement in statements {

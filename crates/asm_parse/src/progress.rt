@@ -1,10 +1,11 @@
-ghost use Rattle.std.specs.Prelude.{◌≡◌, List, ℕ, Bool, is_some, IfOk, OnOk};
+ghost use Rattle.std.specs.Prelude.{◌≡◌, List, ℕ, Bool, is_some, IfOk, OnOk, MatchResult};
 ghost use Rattle.asm_parse.specs.Refusals.{Gives};
 ghost use Rattle.asm_parse.specs.Parse as parse;
 ghost use Rattle.asm_parse.specs.Words.{IsAskable, Tells};
 ghost use Rattle.asm_parse.specs.Progress as spec;
 ghost use Rattle.asm_parse.specs.Known.{IsKnown, most_tokens};
 ghost use Rattle.asm_parse.specs.Valid.{IsValidUnit};
+ghost use Rattle.asm_parse.specs.Placed.{UnitIn, NoIn, StateIn};
 ghost use Rattle.asm_parse.specs.Numbering.{place_of};
 ghost use Rattle.asm_parse.specs.Lines.{are_new};
 
@@ -174,6 +175,7 @@ impl<'a> Progress<'a> {
         requires known { IsKnown most_tokens self.now }
         ensures exact { (word : List ℕ → Bool) → Tells (W.post is_word.now) word → Gives (parse.unit_of word self.now) result }
         ensures valid { IfOk result IsValidUnit }
+        ensures placed { (count : ℕ) → StateIn count self.now → MatchResult result (UnitIn count) (NoIn count) }
     {
         let functions = functions_of(alloc, &self.symbols, is_word, self.bodies.as_slice())?;
         let values = values_of(alloc, &self.symbols, self.values.as_slice())?;

@@ -1,8 +1,9 @@
-ghost use Rattle.std.specs.Prelude.{◌≡◌, ◌<◌, ◌≤◌, List, ℕ, Bool, All, length, IfOk, IfSome};
+ghost use Rattle.std.specs.Prelude.{◌≡◌, ◌<◌, ◌≤◌, List, ℕ, Bool, All, length, IfOk, IfErr, IfSome, MatchResult};
 ghost use Rattle.goasm_base.specs.Statements.{IsValidFunction, IsValidStatement, IsValidOperand, most_statements};
 ghost use Rattle.asm_parse.specs.Refusals.{Gives, traversed};
 ghost use Rattle.asm_parse.specs.Known.{AreFew, IsNumbered, IsKnownOperand, IsKnownLine, IsKnownBody, most_tokens};
 ghost use Rattle.asm_parse.specs.Resolve as spec;
+ghost use Rattle.asm_parse.specs.Placed.{FunctionIn, StatementIn, BodyIn, LineIn, NoIn};
 ghost use Rattle.asm_parse.specs.Words.{IsAskable, Tells};
 
 use crate::lines::{Body, Line, is_aside};
@@ -26,6 +27,7 @@ pub fn function_of<W: Fn(&[u8]) -> bool>(
     requires known { IsKnownBody symbols.now most_tokens body.now }
     ensures exact { (word : List ℕ → Bool) → Tells (W.post is_word.now) word → Gives (spec.function_of word symbols.now body.now) result }
     ensures valid { IfOk result (IsValidFunction (length symbols.now)) }
+    ensures placed { (count : ℕ) → BodyIn count body.now → MatchResult result (FunctionIn count) (NoIn count) }
 {
     let stmts = statements_of(alloc, symbols, is_word, body, body.lines.as_slice())?;
     Ok(Function {
@@ -52,6 +54,7 @@ fn statements_of<W: Fn(&[u8]) -> bool>(
     ensures exact { (word : List ℕ → Bool) → Tells (W.post is_word.now) word → Gives (traversed (spec.statement_of word symbols.now body.now) lines.now) result }
     ensures valid { IfOk result (λ stmts. All (IsValidStatement (length symbols.now) (length body.now.lines)) stmts) }
     ensures count { IfOk result (λ stmts. length stmts ≡ length lines.now) }
+    ensures placed { (count : ℕ) → All (LineIn count) lines.now → MatchResult result (λ stmts. All (StatementIn count) stmts) (NoIn count) }
 {
     let mut stmts = Vec::new(alloc);
     for line in lines {
@@ -75,6 +78,7 @@ fn statement_of<W: Fn(&[u8]) -> bool>(
     requires known { IsKnownLine symbols.now line.now }
     ensures exact { (word : List ℕ → Bool) → Tells (W.post is_word.now) word → Gives (spec.statement_of word symbols.now body.now line.now) result }
     ensures valid { IfOk result (IsValidStatement (length symbols.now) (length body.now.lines)) }
+    ensures placed { (count : ℕ) → line.now.pos.file < count → MatchResult result (StatementIn count) (NoIn count) }
 {
     let drafts = line.code.operands.as_slice();
     if has_unknown(is_word, body, drafts) {
@@ -104,6 +108,7 @@ fn operands_of<W: Fn(&[u8]) -> bool>(
     requires known { All (IsKnownOperand symbols.now) drafts.now }
     ensures exact { (word : List ℕ → Bool) → Tells (W.post is_word.now) word → Gives (traversed (spec.operand_of word symbols.now body.now line.now) drafts.now) result }
     ensures valid { IfOk result (λ operands. All (IsValidOperand (length symbols.now) (length body.now.lines)) operands) }
+    ensures placed { (count : ℕ) → line.now.pos.file < count → IfErr result (NoIn count) }
 {
     let mut operands = Vec::new(alloc);
     for draft in drafts {
@@ -150,6 +155,7 @@ fn operand_of<W: Fn(&[u8]) -> bool>(
     requires known { IsKnownOperand symbols.now draft.now }
     ensures exact { (word : List ℕ → Bool) → Tells (W.post is_word.now) word → Gives (spec.operand_of word symbols.now body.now line.now draft.now) result }
     ensures valid { IfOk result (IsValidOperand (length symbols.now) (length body.now.lines)) }
+    ensures placed { (count : ℕ) → line.now.pos.file < count → IfErr result (NoIn count) }
 {
     match draft {
         Draft::Imm(value) => Ok(Operand::Imm(*value)),
@@ -202,6 +208,7 @@ fn bare<W: Fn(&[u8]) -> bool>(
     requires short { length body.now.lines ≤ most_statements }
     ensures exact { (word : List ℕ → Bool) → Tells (W.post is_word.now) word → Gives (spec.bare word body.now pos name.now) result }
     ensures valid { (symbols : ℕ) → IfOk result (IsValidOperand symbols (length body.now.lines)) }
+    ensures placed { (count : ℕ) → pos.file < count → IfErr result (NoIn count) }
 {
     if is_word(name.as_slice()) {
         return Ok(Operand::Word(name.owned(alloc)?));

@@ -1,7 +1,8 @@
-ghost use Rattle.std.specs.Prelude.{◌≡◌, ◌+◌, ◌≤◌, List, ℕ, Bool, length, IfOk, OnOk};
+ghost use Rattle.std.specs.Prelude.{◌≡◌, ◌+◌, ◌<◌, ◌≤◌, List, ℕ, Bool, All, length, IfOk, IfErr, OnOk, MatchResult};
 ghost use Rattle.asm_grammar.specs.Statements.{HasSizes, operand_count};
 ghost use Rattle.asm_parse.specs.Refusals.{Gives, Moves};
 ghost use Rattle.asm_parse.specs.Known.{IsKnown};
+ghost use Rattle.asm_parse.specs.Placed.{TokenIn, NoIn, StateIn};
 ghost use Rattle.asm_parse.specs.Steps as spec;
 ghost use Rattle.asm_parse.specs.Words.{IsAskable, Tells};
 
@@ -33,6 +34,7 @@ pub fn step<'a, W: Fn(&[u8]) -> bool>(
     requires { IsAskable (W.pre is_word.now) }
     ensures exact { (word : List ℕ → Bool) → Tells (W.post is_word.now) word → Moves (spec.step word progress.old outlook tokens.now) result progress.new }
     ensures known { OnOk result ((before : ℕ) → IsKnown before progress.old → IsKnown (before + length tokens.now) progress.new) }
+    ensures placed { (count : ℕ) → All (TokenIn count) tokens.now → StateIn count progress.old → MatchResult result (λ _. StateIn count progress.new) (NoIn count) }
 {
     let pos = match tokens {
         [] => return Ok(()),
@@ -54,6 +56,7 @@ fn read_one<'a>(alloc: Global, pos: Pos, tokens: &'a [Token]) -> Result<Read<'a>
     ensures exact { Gives (spec.read pos tokens.now) result }
     ensures sized { IfOk result (λ read. HasSizes read.statement.form) }
     ensures few { IfOk result (λ read. operand_count read.statement.form ≤ length tokens.now + 1) }
+    ensures placed { (count : ℕ) → pos.file < count → IfErr result (NoIn count) }
 {
     let mut reader = Reader::new(tokens);
     match read_statement(alloc, &mut reader) {

@@ -1,8 +1,9 @@
-ghost use Rattle.std.specs.Prelude.{◌≡◌, ◌<◌, List, ℕ, Bool, All, length, map, IfOk, IfSome};
+ghost use Rattle.std.specs.Prelude.{◌≡◌, ◌<◌, List, ℕ, Bool, All, length, map, IfOk, IfSome, MatchResult};
 ghost use Rattle.goasm_base.specs.Statements.{IsValidFunction};
 ghost use Rattle.asm_parse.specs.Refusals.{Gives, traversed};
 ghost use Rattle.asm_parse.specs.Known.{AreFew, IsKnownBody, IsKnownValue, IsKnownData, IsKnownGlobal, most_tokens};
 ghost use Rattle.asm_parse.specs.Valid.{IsValidData, IsValidGlobal};
+ghost use Rattle.asm_parse.specs.Placed.{FunctionIn, BodyIn, NoIn};
 ghost use Rattle.asm_parse.specs.Resolve as resolve;
 ghost use Rattle.asm_parse.specs.Parse as spec;
 ghost use Rattle.asm_parse.specs.Words.{IsAskable, Tells};
@@ -29,6 +30,7 @@ pub fn functions_of<W: Fn(&[u8]) -> bool>(
     requires known { All (IsKnownBody symbols.now most_tokens) bodies.now }
     ensures exact { (word : List ℕ → Bool) → Tells (W.post is_word.now) word → Gives (traversed (resolve.function_of word symbols.now) bodies.now) result }
     ensures valid { IfOk result (λ functions. All (IsValidFunction (length symbols.now)) functions) }
+    ensures placed { (count : ℕ) → All (BodyIn count) bodies.now → MatchResult result (λ functions. All (FunctionIn count) functions) (NoIn count) }
 {
     let mut functions = Vec::new(alloc);
     for body in bodies {

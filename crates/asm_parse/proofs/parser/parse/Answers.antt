@@ -1,10 +1,12 @@
-use Rattle.std.proofs.Common.{◌≡◌, ◌≤◌, Err, length, ap, ◌∙◌, arith}
-use Rattle.std.specs.Prelude.{sum_by}
+use Rattle.std.proofs.Common.{◌≡◌, ◌≤◌, Err, length, sym, subst, ap, ◌∙◌, arith}
+use Rattle.std.specs.Prelude.{All, sum_by}
 use Rattle.std.proofs.lemmas.Result.{err_from_is_err_and}
 use Rattle.asm_parse.specs.Ahead.{seen}
 use Rattle.asm_parse.specs.Parse.{statements_of}
+use Rattle.asm_parse.specs.Placed.{TokenIn}
 use Rattle.asm_parse.proofs.FirstNames.{judged, is_first, none_refused}
 use Rattle.asm_parse.proofs.KnownLemmas.{known_more}
+use Rattle.asm_parse.proofs.PlacedLemmas.{statements_in}
 use Rattle.asm_parse.proofs.TotalLemmas.{total_within}
 use Rattle.asm_parse.proofs.ReadLemmas.{parsed_stops, parsed_on}
 use Rattle.asm_parse.proofs.parser.parse.Goals as goal
@@ -53,3 +55,14 @@ pub returns-clause-none : goal.returns-clause-none
 returns-clause-none g c =
     let cut : seen c.as_slice-2.result.now ≡ statements_of c.args.tokens.now.list = ap seen c.as_slice-2.ensures.value ∙ c.in_ok-statements.ensures ∙ ap statements_of c.as_slice.ensures in
     λ word tells. none_refused word c.args.tokens.now.list c.resolved.result (judged word c.args.tokens.now.list c.resolved.result (rw (parsed_on word c.args.tokens.now.list (seen c.as_slice-2.result.now) c.in_ok-progress.progress cut (c.in_ok-progress.ensures.exact word tells)) (c.resolved.ensures.exact word tells)))
+
+pub returns-in_err-progress-clause-placed : goal.returns-in_err-progress-clause-placed
+returns-in_err-progress-clause-placed g c =
+    let p = err_from_is_err_and c.from_residual-in_err-progress.result c.from_residual-in_err-progress.ensures.1 in
+    let cut : seen c.as_slice-2.result.now ≡ statements_of c.args.tokens.now.list = ap seen c.as_slice-2.ensures.value ∙ c.in_ok-statements.ensures ∙ ap statements_of c.as_slice.ensures in
+    rw (p.1, p.2) (λ count all. c.in_err-progress.ensures.placed count (subst (All (All (TokenIn count))) (sym cut) (statements_in count c.args.tokens.now.list all)))
+
+pub returns-clause-placed : goal.returns-clause-placed
+returns-clause-placed g c = λ count all.
+    let cut : seen c.as_slice-2.result.now ≡ statements_of c.args.tokens.now.list = ap seen c.as_slice-2.ensures.value ∙ c.in_ok-statements.ensures ∙ ap statements_of c.as_slice.ensures in
+    c.resolved.ensures.placed count (c.in_ok-progress.ensures.placed count (subst (All (All (TokenIn count))) (sym cut) (statements_in count c.args.tokens.now.list all)))

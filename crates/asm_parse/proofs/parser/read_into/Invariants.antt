@@ -1,6 +1,7 @@
 use Rattle.std.proofs.Common.{◌≡◌, ℕ, Bool, List, length, take, drop}
-use Rattle.std.specs.Prelude.{sum_by}
+use Rattle.std.specs.Prelude.{All, sum_by}
 use Rattle.asm_parse.specs.Known.{IsKnown}
+use Rattle.asm_parse.specs.Placed.{TokenIn, StateIn}
 use Rattle.asm_parse.specs.Words.{Tells}
 use Rattle.asm_parse.specs.Ahead.{seen, outlooks_back}
 use Rattle.asm_parse.specs.Steps.{steps}
@@ -12,4 +13,5 @@ invariant-loop-statement g l = record {
   read : (word : List ℕ → Bool) → Tells (λ name answer. g.W.Fn.post l.is_word (name, tt) answer) word
       → steps word l.progress (drop l.statement-index (seen l.statements)) ≡ steps word l.fn.progress (seen l.statements);
   known : IsKnown 0 l.fn.progress → IsKnown (sum_by length (take l.statement-index (seen l.statements))) l.progress;
+  placed : (count : ℕ) → All (All (TokenIn count)) (seen l.statements) → StateIn count l.fn.progress → StateIn count l.progress;
 }

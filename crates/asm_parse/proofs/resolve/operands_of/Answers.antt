@@ -23,3 +23,8 @@ loop-draft-preserved g c = record {
 pub returns-clause-exact : goal.returns-clause-exact
 returns-clause-exact g c =
     rw c.new.ensures (λ word tells. sym (is_done (with_front (operand_of word c.args.symbols.now c.args.body.now c.args.line.now)) c.args.drafts.now c.loop-draft.draft-index (traversed (operand_of word c.args.symbols.now c.args.body.now c.args.line.now) c.args.drafts.now) c.loop-draft.operands.items (c.loop-draft.invariant.so_far word tells) (omega (arith, c.loop-draft-test.false))) ∙ ends (operand_of word c.args.symbols.now c.args.body.now c.args.line.now) c.loop-draft.operands.items)
+
+pub returns-in_err-operand-clause-placed : goal.returns-in_err-operand-clause-placed
+returns-in_err-operand-clause-placed g c =
+    let p = err_from_is_err_and c.from_residual.result c.from_residual.ensures.1 in
+    rw (p.1, p.2) (λ count own. c.in_err-operand.ensures.placed count own)

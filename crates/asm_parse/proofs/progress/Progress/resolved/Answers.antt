@@ -1,7 +1,11 @@
-use Rattle.std.proofs.Common.{◌≡◌, List, length, ap, ◌∙◌}
+use Rattle.std.proofs.Common.{◌≡◌, List, length, sym, subst, ap, ◌∙◌}
+use Rattle.std.specs.Prelude.{All}
+use Rattle.std.proofs.lemmas.Result.{err_from_is_err_and}
 use Rattle.std.proofs.lemmas.List.{length-map}
 use Rattle.asm_parse.specs.declared.unit.Symbol.{Symbol}
 use Rattle.asm_parse.specs.Parse.{symbol_of}
+use Rattle.asm_parse.specs.Placed.{DataIn, GlobalIn, BodyIn, ValueIn, DeclaredIn}
+use Rattle.asm_parse.proofs.PlacedLemmas.{values_in, globals_in}
 use Rattle.asm_parse.proofs.progress.Progress.resolved.Goals as goal
 
 pub functions_of-requires-clause-known : goal.functions_of-requires-clause-known
@@ -17,4 +21,18 @@ returns-clause-valid g c =
       functions = rw count c.in_ok-functions.ensures.valid;
       values = rw count c.in_ok-values.ensures.valid;
       globals = rw count c.in_ok-globals.ensures.valid;
+    }
+
+pub returns-in_err-functions-clause-placed : goal.returns-in_err-functions-clause-placed
+returns-in_err-functions-clause-placed g c =
+    let p = err_from_is_err_and c.from_residual.result c.from_residual.ensures.1 in
+    rw (p.1, p.2) (λ count placed. let own = rw (← c.self.view_is) at placed in c.in_err-functions.ensures.placed count (subst (All (BodyIn count)) (sym c.as_slice.ensures.value) own.bodies))
+
+pub returns-clause-placed : goal.returns-clause-placed
+returns-clause-placed g c = λ count placed.
+    let own = rw (← c.self.view_is) at placed in
+    record {
+      functions = c.in_ok-functions.ensures.placed count (subst (All (BodyIn count)) (sym c.as_slice.ensures.value) own.bodies);
+      values = subst (All (DataIn count)) (sym c.in_ok-values.ensures.exact) (values_in count c.self.inside.symbols c.as_slice-2.result.now (subst (All (ValueIn count)) (sym c.as_slice-2.ensures.value) own.values));
+      globals = subst (All (GlobalIn count)) (sym c.in_ok-globals.ensures.exact) (globals_in count c.self.inside.symbols c.as_slice-3.result.now (subst (All (DeclaredIn count)) (sym c.as_slice-3.ensures.value) own.globals));
     }
