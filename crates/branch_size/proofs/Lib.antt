@@ -3,3 +3,4 @@ pub mod FirstLemmas
 pub mod RowLemmas
 pub mod SizeLemmas
 pub mod RoomLemmas
+pub mod GoalLemmas

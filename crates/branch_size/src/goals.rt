@@ -3,7 +3,7 @@ ghost use Rattle.std.specs.List.{slice_get};
 ghost use Rattle.asm_target.specs.declared.body.Line.{Line};
 ghost use Rattle.asm_target.specs.Frames.{IsFrame};
 ghost use Rattle.asm_target.specs.Goals.{block_of, goal_of};
-ghost use Rattle.branch_size.specs.Tables.{HasGoals};
+ghost use Rattle.branch_size.specs.Tables.{HasGoals, line_in};
 
 use crate::first_lines::firsts;
 use asm_target::{Body, Guard, Part, Target, To};
@@ -21,7 +21,22 @@ pub struct Goals {
     pub past: usize,
 }
 
-/// Finds the lines.
+impl Goals {
+    /// The line that a reference leads to, if it's one of the function.
+    pub fn line(&self, to: To) -> Option<usize>
+        ensures { result ≡ line_in self.now to }
+    {
+        match to {
+            To::Stmt(number) => self.firsts.get(number as usize).copied(),
+            To::Entry => Some(0),
+            To::Block => Some(self.block),
+            To::Past => Some(self.past),
+            To::Symbol(..) | To::Grow => None,
+        }
+    }
+}
+
+/// Finds the lines that the references of a function's instructions lead to.
 pub fn find_goals<T: Target>(alloc: Global, body: &Body<T::Instr>) -> Result<Goals, Memory>
     requires { IsFrame T.MACHINE body.now.frame }
     ensures { IfOk result (HasGoals (T.check body.now.frame) body.now.code) }
@@ -51,6 +66,7 @@ fn block_lines<I: Copy + Default>(guard: &Guard<I>, count: usize) -> (usize, usi
 }
 
 /// The line that a line refers to, if it's one of the function.
+#[tactic(auto, using(crate::proofs::GoalLemmas::same_line))]
 pub fn goal<T: Target>(body: &Body<T::Instr>, goals: &Goals, line: usize) -> Option<usize>
     requires line { line < length body.now.code }
     requires goals { HasGoals (T.check body.now.frame) body.now.code goals.now }
@@ -59,11 +75,8 @@ pub fn goal<T: Target>(body: &Body<T::Instr>, goals: &Goals, line: usize) -> Opt
 {
     let item = body.code.as_slice()[line];
     let refer = item.refer?;
-    match (refer.part, refer.to) {
-        (Part::Whole, To::Stmt(number)) => goals.firsts.get(number as usize).copied(),
-        (Part::Whole, To::Entry) => Some(0),
-        (Part::Whole, To::Block) => Some(goals.block),
-        (Part::Whole, To::Past) => Some(goals.past),
-        _ => None,
+    match refer.part {
+        Part::Whole => goals.line(refer.to),
+        Part::High | Part::Low => None,
     }
 }

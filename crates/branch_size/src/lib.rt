@@ -10,6 +10,7 @@ mod rows;
 mod size_no;
 mod sizing;
 
+pub use goals::{Goals, find_goals};
 pub use least_forms::Sizes;
 pub use size_no::SizeNo;
 pub use sizing::{one_size, size};
