@@ -1,3 +1,4 @@
+pub mod Held
 pub mod Ascii
 pub mod Lines
 pub mod Numbers

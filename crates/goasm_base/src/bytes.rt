@@ -1,21 +1,30 @@
 ghost use Rattle.std.specs.Prelude.{◌≡◌, IfOk};
 
 use crate::memory::Memory;
+use arrayvec::ArrayVec;
 use std::alloc::Global;
 use std::marker::Model;
 
-/// A string of bytes: what a file holds, or a text that is to be written.
+/// A string of bytes: what a file holds, or a text that is to be written. One of up to sixteen bytes lies in the value itself.
 #[derive(Debug, Drop)]
 pub struct Bytes {
-    bytes: Vec<u8>,
+    held: Held,
+}
+
+// Bytes in the value itself, or in a block of their own.
+#[derive(Debug, Drop)]
+enum Held {
+    Short(ArrayVec<u8, 16>),
+    Long(Vec<u8>),
 }
 
 impl Model for Bytes {
     ghost use Rattle.std.specs.Prelude.{ℕ, List};
+    ghost use Rattle.goasm_base.specs.Held.{held_bytes};
 
     ghost Value = { List ℕ };
 
-    ghost view = { λ b. b.bytes.items };
+    ghost view = { λ b. held_bytes b.held };
 }
 
 impl Bytes {
@@ -23,20 +32,31 @@ impl Bytes {
     pub fn new(list: Vec<u8>) -> Self
         ensures { result ≡ list.items }
     {
-        Bytes { bytes: list }
+        Bytes {
+            held: Held::Long(list),
+        }
     }
 
-    /// Bytes of their own that are equal to these.
+    /// Bytes of their own that are equal to these. A short string takes no memory.
     pub fn from_slice(alloc: Global, bytes: &[u8]) -> Result<Self, Memory>
         ensures { IfOk result (λ copy. copy ≡ bytes.now) }
     {
-        Ok(Bytes::new(Vec::from_slice(alloc, bytes)?))
+        let mut short = ArrayVec::new();
+        match short.try_extend_from_slice(bytes) {
+            Ok(()) => Ok(Bytes {
+                held: Held::Short(short),
+            }),
+            Err(_) => Ok(Bytes::new(Vec::from_slice(alloc, bytes)?)),
+        }
     }
 
     pub fn as_slice(&self) -> &[u8]
         ensures { result.now ≡ self.now }
     {
-        self.bytes.as_slice()
+        match &self.held {
+            Held::Short(bytes) => bytes.as_slice(),
+            Held::Long(bytes) => bytes.as_slice(),
+        }
     }
 
     /// Equal bytes of their own.
