@@ -1,4 +1,6 @@
 //! The two forms of jumps, and the addresses that instructions hold. The bytes are those of GNU binutils 2.40.
+ghost use Rattle.std.specs.Prelude.{◌≤◌};
+
 use amd64_select::{Amd64, Listed};
 use asm_target::{Part, Processor, Target};
 use goasm_base::Bytes;
@@ -37,7 +39,9 @@ fn expect_form<R: Abort>(
     instr: &Listed,
     form: u8,
     digits: &str,
-) -> Result<(), Fail> {
+) -> Result<(), Fail>
+    requires { form ≤ 1 }
+{
     let code = Amd64::forms(instr, form);
     assert!(rt; code.len() == 1, "{digits}");
     let bytes = hex::encode(alloc, Amd64::spell(&code.get(0)).as_slice())?;
