@@ -27,7 +27,7 @@ pub fn parsed<T: Target>(alloc: Global, file: u32, source: &[u8]) -> Result<Unit
     if tokens.list.as_slice().len() > 4_000_000 {
         return Err(ParseNo::Memory)?;
     }
-    Ok(parse(alloc, &tokens, T::is_word)?)
+    Ok(parse(alloc, &tokens, |name: &[u8]| T::is_word(name))?)
 }
 
 /// The unit of a source of these lines.
