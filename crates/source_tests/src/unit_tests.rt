@@ -181,16 +181,31 @@ fn is_described(operand: &Operand, expected: (u32, i64, i64, &str, &str)) -> boo
 }
 
 #[test]
-fn operands_have_their_forms(rt: HostRuntime) -> Result<(), Fail> {
+fn expressions_have_their_values(rt: HostRuntime) -> Result<(), Fail> {
     for row in EXPRESSIONS {
         expect_operand(&rt, rt.alloc(), row)?;
     }
+    Ok(())
+}
+
+#[test]
+fn operands_of_amd64_have_their_forms(rt: HostRuntime) -> Result<(), Fail> {
     for row in AMD64 {
         expect_operand(&rt, rt.alloc(), row)?;
     }
+    Ok(())
+}
+
+#[test]
+fn operands_of_arm64_have_their_forms(rt: HostRuntime) -> Result<(), Fail> {
     for row in ARM64 {
         expect_operand(&rt, rt.alloc(), row)?;
     }
+    Ok(())
+}
+
+#[test]
+fn operands_of_riscv64_have_their_forms(rt: HostRuntime) -> Result<(), Fail> {
     for row in RISCV64 {
         expect_operand(&rt, rt.alloc(), row)?;
     }
