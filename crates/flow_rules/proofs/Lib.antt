@@ -1,0 +1,4 @@
+pub mod ChangeLemmas
+pub mod RoleLemmas
+pub mod HitLemmas
+pub mod FirstLemmas
