@@ -8,6 +8,13 @@ use Rattle.asm_target.proofs.CleanLemmas.{none_below}
 use Rattle.flow_rules.specs.Lawful.{IsLawful}
 use Rattle.flow_rules.specs.Passing.{AreUnhit, GoesOver}
 
+pub unequal : (a b : ℕ) → ¬ (a ≡ b) → (a == b) ≡ false
+unequal a b unlike =
+    elim (a == b) as (λ e. (a == b) ≡ e → e ≡ false) [
+      | true ↦ (λ is. absurd (unlike ((Decides-eqb a b).0 is)))
+      | false ↦ (λ is. refl)
+    ] refl
+
 module _ (f : FlowFunction) where
   -- the jump of one instruction goes into none of the sequences that begin before `first` and are in order
   abbrev pub Misses : ℕ → ℕ → Type 0
@@ -37,13 +44,6 @@ module _ (f : FlowFunction) where
       none_below (λ j. is_target f (s + suc j)) (count_of (f.found s) - 1) (λ j less.
       none_below (λ i. is_goal (jump_goal (next_at f i)) (f.at (s + suc j))) f.count (λ i inside.
       spared.none i inside s (suc j) before (record { order = order; over = omega arith }) (omega arith)))
-
-  unequal : (a b : ℕ) → ¬ (a ≡ b) → (a == b) ≡ false
-  unequal a b unlike =
-      elim (a == b) as (λ e. (a == b) ≡ e → e ≡ false) [
-        | true ↦ (λ is. absurd (unlike ((Decides-eqb a b).0 is)))
-        | false ↦ (λ is. refl)
-      ] refl
 
   module _ (lawful : IsLawful f) where
     over_inside : (s k : ℕ) → s < f.count → GoesOver f s k → k < f.count

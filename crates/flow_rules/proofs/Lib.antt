@@ -2,3 +2,4 @@ pub mod ChangeLemmas
 pub mod RoleLemmas
 pub mod HitLemmas
 pub mod FirstLemmas
+pub mod EntryLemmas

@@ -52,7 +52,7 @@ module _ {Instr : Type 0} (set : InstructionSet Instr) (shape : Shape) (begins :
   behind k = map (λ placed. placed.instr) (drop k code)
 
   behind_length : (k : ℕ) → length (behind k) ≡ length code - k
-  behind_length k = length-map (λ placed. placed.instr) (drop k code) ∙ length-drop k code
+  behind_length k = length-map (drop k code) (λ placed. placed.instr) ∙ length-drop k code
 
   behind_more : (s j : ℕ) → behind (s + j) ≡ drop j (behind s)
   behind_more s j =

@@ -55,4 +55,4 @@ module _ {Instr : Type 0} where
 
 -- what a refusal tells
 abbrev pub told : FlowNo → Breach
-told no = record { rule = no.rule; address = no.at; depths = no.depths }
+told refusal = record { rule = refusal.rule; address = refusal.at; depths = refusal.depths }

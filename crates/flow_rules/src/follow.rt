@@ -1,4 +1,4 @@
-ghost use Rattle.std.specs.Prelude.{◌≡◌, suc, ℤ, pos, ◌<◌, ◌==◌, ◌&&◌, ◌||◌, not};
+ghost use Rattle.std.specs.Prelude.{◌≡◌, ℕ, Bool, suc, ℤ, pos, ◌<◌, ◌==◌, ◌&&◌, ◌||◌, not};
 ghost use Rattle.std.specs.Ordering.{int_eq};
 ghost use Rattle.asm_target.specs.FlowFunction as functions;
 ghost use Rattle.asm_target.specs.FlowRules as rules;
@@ -23,8 +23,9 @@ fn behind<L: Listing>(list: &L, here: &Here) -> Option<usize>
     ensures { let f = L.function list.now in IsFirst (λ j. (rules.can_pass here.now.flow.next && (suc here.now.number == j))
         && not (int_eq here.now.outgoing (pos (f.depth j)))) f.count result }
 {
+    let count = list.count();
     let next = here.number + 1;
-    if can_pass(here.flow.next) && next < list.count() && has_other_depth(list, here, next) {
+    if can_pass(here.flow.next) && next < count && has_other_depth(list, here, next) {
         Some(next)
     } else {
         None

@@ -97,7 +97,8 @@ pub fn breaks_f6<L: Listing>(list: &L, here: &Here) -> bool
     requires { IsHere (L.function list.now) here.now }
     ensures { result ≡ rules.breaks_f6 (L.function list.now) here.now.number }
 {
-    can_pass(here.flow.next) && here.number + 1 == list.count()
+    let count = list.count();
+    can_pass(here.flow.next) && here.number + 1 == count
 }
 
 /// With a link register, a call that doesn't have the stack grow stands at depth 0, or links through another register.
