@@ -3,3 +3,4 @@ pub mod RoleLemmas
 pub mod HitLemmas
 pub mod FirstLemmas
 pub mod EntryLemmas
+pub mod FollowLemmas

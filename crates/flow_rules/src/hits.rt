@@ -98,6 +98,8 @@ fn is_hit<L: Listing>(list: &L, number: usize, count: usize) -> bool
     requires { number + count < (L.function list.now).count }
     ensures { result ≡ changes.is_hit (functions.is_target (L.function list.now)) number count }
 {
+    // There are fewer than 2^64 instructions.
+    let _ = list.count();
     let mut hit = false;
     for behind in 0..count {
         hit = hit || is_target(list, number + (behind + 1));

@@ -28,6 +28,8 @@ pub fn role_at<L: Listing>(list: &L, first: usize, before: Role, number: usize) 
     if number < before.past {
         return before;
     }
+    // There are fewer than 2^64 instructions.
+    let _ = list.count();
     let found = sequence_at(list, first, number);
     Role {
         start: number,
@@ -55,6 +57,7 @@ pub fn is_last<L: Listing>(list: &L, role: Role, number: usize) -> bool
     requires role { IsRole (L.function list.now) number role }
     ensures { result ≡ functions.is_last (L.function list.now) number }
 {
+    // There are fewer than 2^64 instructions.
     let _ = list.count();
     number + 1 == role.past
 }

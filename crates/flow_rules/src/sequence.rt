@@ -80,6 +80,7 @@ fn is_grown<L: Listing>(list: &L, number: usize, count: usize) -> bool
     requires within { number + count ≤ (L.function list.now).count }
     ensures { result ≡ functions.is_grown (L.function list.now) number count }
 {
+    // There are fewer than 2^64 instructions.
     let _ = list.count();
     list.depth(number) == 0
         && calls_growth(list, number + (count - 2))
