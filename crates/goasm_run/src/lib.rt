@@ -2,6 +2,7 @@
 #![tactic(auto)]
 
 mod architecture;
+mod build;
 #[cfg(test)]
 mod bytes_tests;
 mod command;
