@@ -1,4 +1,3 @@
-pub mod Held
 pub mod Ascii
 pub mod Lines
 pub mod Numbers

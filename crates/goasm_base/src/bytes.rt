@@ -1,30 +1,21 @@
 ghost use Rattle.std.specs.Prelude.{◌≡◌, IfOk};
 
 use crate::memory::Memory;
-use arrayvec::ArrayVec;
 use std::alloc::Global;
 use std::marker::Model;
 
-/// A string of bytes: what a file holds, or a text that is to be written. One of up to sixteen bytes lies in the value itself.
+/// A string of bytes: what a file holds, or a text that is to be written.
 #[derive(Debug, Drop)]
 pub struct Bytes {
-    held: Held,
-}
-
-// Bytes in the value itself, or in a block of their own.
-#[derive(Debug, Drop)]
-enum Held {
-    Short(ArrayVec<u8, 16>),
-    Long(Vec<u8>),
+    bytes: Vec<u8>,
 }
 
 impl Model for Bytes {
     ghost use Rattle.std.specs.Prelude.{ℕ, List};
-    ghost use Rattle.goasm_base.specs.Held.{held_bytes};
 
     ghost Value = { List ℕ };
 
-    ghost view = { λ b. held_bytes b.held };
+    ghost view = { λ b. b.bytes.items };
 }
 
 impl Bytes {
@@ -32,31 +23,20 @@ impl Bytes {
     pub fn new(list: Vec<u8>) -> Self
         ensures { result ≡ list.items }
     {
-        Bytes {
-            held: Held::Long(list),
-        }
+        Bytes { bytes: list }
     }
 
-    /// Bytes of their own that are equal to these. A short string takes no memory.
+    /// Bytes of their own that are equal to these.
     pub fn from_slice(alloc: Global, bytes: &[u8]) -> Result<Self, Memory>
         ensures { IfOk result (λ copy. copy ≡ bytes.now) }
     {
-        let mut short = ArrayVec::new();
-        match short.try_extend_from_slice(bytes) {
-            Ok(()) => Ok(Bytes {
-                held: Held::Short(short),
-            }),
-            Err(_) => Ok(Bytes::new(Vec::from_slice(alloc, bytes)?)),
-        }
+        Ok(Bytes::new(Vec::from_slice(alloc, bytes)?))
     }
 
     pub fn as_slice(&self) -> &[u8]
         ensures { result.now ≡ self.now }
     {
-        match &self.held {
-            Held::Short(bytes) => bytes.as_slice(),
-            Held::Long(bytes) => bytes.as_slice(),
-        }
+        self.bytes.as_slice()
     }
 
     /// Equal bytes of their own.
