@@ -4,7 +4,8 @@ use Rattle.goasm_base.specs.Shelf.{Files, ReadLog}
 use Rattle.goasm_run.specs.declared.stop.Stop.{Stop}
 use Rattle.goasm_run.specs.declared.stop.Stop.TheVariants as stops
 use Rattle.goasm_run.specs.Changes.{ShelfChange, ReadsAll}
-use Rattle.goasm_run.specs.Plan.{Plan, Refusal, ComesTo}
+use Rattle.goasm_run.specs.Endings.{Refusal}
+use Rattle.goasm_run.specs.Plan.{Plan, ComesTo}
 use Rattle.goasm_run.specs.Stops.{AnswerStopped, Stopped, Answers}
 use Rattle.goasm_run.specs.PartsRead.{LeadsTo}
 

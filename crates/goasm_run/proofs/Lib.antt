@@ -7,3 +7,6 @@ mod SourceLemmas
 mod StatementLemmas
 mod NumberLemmas
 mod FileLemmas
+mod QuestionLemmas
+mod WordLemmas
+mod ListingLemmas

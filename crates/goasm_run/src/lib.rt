@@ -12,6 +12,8 @@ mod expand_tests;
 mod limits;
 mod lines;
 mod list;
+#[cfg(test)]
+mod listing_tests;
 mod part;
 mod parts;
 mod program;

@@ -1,12 +1,28 @@
+ghost use Rattle.std.specs.Prelude.{◌≡◌, ◌≤◌, ℕ, Bool, All, List, length, IfErr, IfOk, MatchResult};
+ghost use Rattle.asm_lex.specs.declared.token.Tokens.{Tokens};
+ghost use Rattle.asm_parse.specs.Placed as placed;
+ghost use Rattle.asm_parse.specs.Placed.{UnitIn};
+ghost use Rattle.asm_parse.specs.Refusals.{Gives};
+ghost use Rattle.asm_parse.specs.Valid.{IsValidUnit};
+ghost use Rattle.unit_listing.specs.Kit.{kit_of};
+ghost use Rattle.goasm_run.specs.declared.architecture.Architecture as spoken;
+ghost use Rattle.goasm_run.specs.BuildsMade.{AreExpanded};
+ghost use Rattle.goasm_run.specs.Changes.{shelf_change};
+ghost use Rattle.goasm_run.specs.Endings.{Text};
+ghost use Rattle.goasm_run.specs.Listing.{units_of, listing_judge, listing_plan};
+ghost use Rattle.goasm_run.specs.Questions.{IsListed, told_as};
+ghost use Rattle.goasm_run.specs.Stops.{Settles, Answers};
+ghost use Rattle.goasm_run.specs.UnitsSaid.{Decides, Serves, ListingStopped};
+
 use crate::architecture::Architecture;
-use crate::build::{Build, built};
+use crate::build::built;
 use crate::stop::Stop;
 use amd64_select::Amd64;
 use asm_lex::Tokens;
 use asm_parse::{ParseNo, Unit, parse};
 use asm_target::Target;
 use branch_size::SizeNo;
-use goasm_base::{Bytes, Name, Shelf};
+use goasm_base::{Bytes, List, Name, Shelf};
 use goasm_text::{Refusal, line_of};
 use obj_rewrite::RewriteNo;
 use std::alloc::Global;
@@ -18,58 +34,85 @@ pub fn listing<F: Shelf>(
     shelf: &mut F,
     architecture: Architecture,
     list: &[u8],
-) -> Result<Bytes, Stop> {
+) -> Result<Bytes, Stop>
+    ensures { Answers (shelf_change F.holds F.faults F.reads shelf.old shelf.new) (listing_plan architecture list.now) result }
+{
     let build = built(alloc, shelf, list)?;
+    over_sources(
+        alloc,
+        architecture,
+        build.files.as_slice(),
+        build.sources.as_slice(),
+    )
+}
+
+// The listing of sources for an architecture.
+fn over_sources(
+    alloc: Global,
+    architecture: Architecture,
+    files: &[Name],
+    sources: &[Tokens],
+) -> Result<Bytes, Stop>
+    requires { AreExpanded files.now sources.now }
+    ensures { Settles (listing_judge architecture files.now sources.now) result }
+{
     match architecture {
-        Architecture::Amd64 => of_target::<Amd64>(alloc, &build),
+        Architecture::Amd64 => for_target::<Amd64>(alloc, files, sources),
     }
 }
 
-// The listing of a build for this target.
-fn of_target<T: Target>(alloc: Global, build: &Build) -> Result<Bytes, Stop> {
-    let files = build.files.as_slice();
-    let units = units::<T>(alloc, files, build.sources.as_slice())?;
-    of_units::<T>(alloc, files, units.as_slice())
-}
-
-// What the sources say, or the first refusal in their order.
-fn units<T: Target>(alloc: Global, files: &[Name], sources: &[Tokens]) -> Result<Vec<Unit>, Stop> {
-    let mut units = Vec::new(alloc);
-    for tokens in sources {
-        units.push(unit::<T>(alloc, files, tokens)?)?;
-    }
-    Ok(units)
-}
-
-fn unit<T: Target>(alloc: Global, files: &[Name], tokens: &Tokens) -> Result<Unit, Stop> {
-    match parse(alloc, tokens, T::is_word) {
-        Ok(unit) => Ok(unit),
+// The listing of sources for a target.
+fn for_target<T: Target>(alloc: Global, files: &[Name], sources: &[Tokens]) -> Result<Bytes, Stop>
+    requires { AreExpanded files.now sources.now }
+    ensures { let kit = kit_of T.instructions T.fits T.MACHINE T.QUANTUM T.SHAPE T.selection T.aiming T.entry T.check T.begins in
+        (architecture : spoken.Architecture) → Serves kit architecture → Settles (listing_judge architecture files.now sources.now) result }
+{
+    match units::<T>(alloc, sources) {
+        Ok(units) => of_units::<T>(alloc, files, units.as_slice()),
         Err(ParseNo::Memory) => Err(Stop::Memory),
         Err(no) => Err(Stop::Refused(line_of(alloc, &Refusal::Parse(no), files)?)),
     }
 }
 
-// The listing of units, or the first refusal.
-fn of_units<T: Target>(alloc: Global, files: &[Name], units: &[Unit]) -> Result<Bytes, Stop> {
+// What the sources say, or the first refusal in their order.
+fn units<T: Target>(alloc: Global, sources: &[Tokens]) -> Result<List<Unit>, ParseNo>
+    requires { All (λ (tokens : Tokens). length tokens.list ≤ 4000000) sources.now }
+    ensures exact { (word : List ℕ → Bool) → Decides T.selection.word word → Gives (units_of word sources.now) result }
+    ensures valid { IfOk result (λ units. All IsValidUnit units) }
+    ensures placed { (count : ℕ) → All (λ (tokens : Tokens). All (placed.TokenIn count) tokens.list) sources.now
+        → MatchResult result (λ units. All (UnitIn count) units) (placed.NoIn count) }
+{
+    let mut units = Vec::new(alloc);
+    for tokens in sources {
+        let unit = parse(alloc, tokens, T::is_word)?;
+        units.push(unit)?;
+    }
+    Ok(List::new(units))
+}
+
+// The listing of units for a target.
+fn of_units<T: Target>(alloc: Global, files: &[Name], units: &[Unit]) -> Result<Bytes, Stop>
+    requires valid { All IsValidUnit units.now }
+    requires placed { All (UnitIn (length files.now)) units.now }
+    ensures text { let kit = kit_of T.instructions T.fits T.MACHINE T.QUANTUM T.SHAPE T.selection T.aiming T.entry T.check T.begins in
+        IfOk result (λ text. IsListed kit files.now units.now (Text text)) }
+    ensures stopped { let kit = kit_of T.instructions T.fits T.MACHINE T.QUANTUM T.SHAPE T.selection T.aiming T.entry T.check T.begins in
+        IfErr result (ListingStopped kit files.now units.now) }
+{
     match unit_listing::listing::<T>(alloc, units) {
         Ok(text) => Ok(text),
-        Err(ListingNo::RW1(place, total)) => refused(
-            alloc,
-            files,
-            &Refusal::Rewrite(RewriteNo::RW1(place, total)),
-        ),
-        Err(ListingNo::Select(place, why)) => refused(
-            alloc,
-            files,
-            &Refusal::Rewrite(RewriteNo::Select(place, why)),
-        ),
-        Err(ListingNo::B1(place, distance)) => {
-            refused(alloc, files, &Refusal::Size(SizeNo::B1(place, distance)))
-        }
         Err(ListingNo::Memory) => Err(Stop::Memory),
+        Err(no) => Err(Stop::Refused(line_of(alloc, &refusal_of(no), files)?)),
     }
 }
 
-fn refused(alloc: Global, files: &[Name], refusal: &Refusal) -> Result<Bytes, Stop> {
-    Err(Stop::Refused(line_of(alloc, refusal, files)?))
+fn refusal_of(no: ListingNo) -> Refusal
+    ensures { result ≡ told_as no }
+{
+    match no {
+        ListingNo::RW1(place, total) => Refusal::Rewrite(RewriteNo::RW1(place, total)),
+        ListingNo::Select(place, why) => Refusal::Rewrite(RewriteNo::Select(place, why)),
+        ListingNo::B1(place, distance) => Refusal::Size(SizeNo::B1(place, distance)),
+        ListingNo::Memory => Refusal::Rewrite(RewriteNo::Memory),
+    }
 }
