@@ -1,5 +1,6 @@
 mod PlanLemmas
 mod AnswerLemmas
+mod BuildLemmas
 mod StatusLemmas
 mod Examples
 mod PartLemmas

@@ -22,11 +22,11 @@ pub record ListingLaws {Instr : Type 0} (kit : Kit Instr) : Type 0 where
 one_ending : {Instr : Type 0} (kit : Kit Instr) → ListingLaws kit → (files : List (List ℕ)) (units : List Said) (ending other : Ending)
     → All IsValidUnit units → IsListed kit files units ending → IsListed kit files units other → ending ≡ other
 one_ending kit laws files units (Text text) (Text other) valid is that = ap Text (laws.one units text other is that)
-one_ending kit laws files units (Text text) (Refusal line) valid is (no, refused, told) = absurd (laws.never units text no valid is refused)
+one_ending kit laws files units (Text text) (Refusal line) valid is (one, refused, told) = absurd (laws.never units text one valid is refused)
 one_ending kit laws files units (Text text) NoForm valid is that = absurd that
-one_ending kit laws files units (Refusal line) (Text text) valid (no, refused, told) that = absurd (laws.never units text no valid that refused)
-one_ending kit laws files units (Refusal line) (Refusal other) valid (no, refused, told) (no', refused', told') =
-    ap Refusal (told ∙ ap (λ no. line_of (told_as no) files) (laws.first units no no' valid refused refused') ∙ sym told')
+one_ending kit laws files units (Refusal line) (Text text) valid (one, refused, told) that = absurd (laws.never units text one valid that refused)
+one_ending kit laws files units (Refusal line) (Refusal other) valid (one, refused, told) (two, refused', told') =
+    ap Refusal (told ∙ ap (λ no. line_of (told_as no) files) (laws.first units one two valid refused refused') ∙ sym told')
 one_ending kit laws files units (Refusal line) NoForm valid is that = absurd that
 one_ending kit laws files units NoForm other valid is that = absurd is
 

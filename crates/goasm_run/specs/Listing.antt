@@ -22,7 +22,7 @@ units_of word sources = traversed (unit_of word) sources
 
 abbrev pub over_units : Architecture → List (List ℕ) → Result (List Said) ParseNo → Plan
 over_units architecture files (Ok units) = Pose (question.Listing architecture files units)
-over_units architecture files (Err no) = Refuse (line_of (Parse no) files)
+over_units architecture files (Err refused) = Refuse (line_of (Parse refused) files)
 
 -- all sources are parsed before an instruction is chosen
 abbrev pub listing_judge : Architecture → Judge

@@ -84,7 +84,7 @@ fn units<T: Target>(alloc: Global, sources: &[Tokens]) -> Result<List<Unit>, Par
 {
     let mut units = Vec::new(alloc);
     for tokens in sources {
-        let unit = parse(alloc, tokens, T::is_word)?;
+        let unit = parse(alloc, tokens, |name| T::is_word(name))?;
         units.push(unit)?;
     }
     Ok(List::new(units))

@@ -1,8 +1,8 @@
-use Rattle.std.proofs.Common.{length, ◌∙◌}
+use Rattle.std.proofs.Common.{length, drop, refl, ◌∙◌}
 use Rattle.asm_directive.specs.LineNames.{line_names_of}
 use Rattle.goasm_run.specs.Sources.{seen}
 use Rattle.goasm_run.proofs.FileLemmas.{room_left, names_enough, lines_behind}
-use Rattle.goasm_run.proofs.commands.expand.over_tokens.Goals as goal
+use Rattle.goasm_run.proofs.build.over_tokens.Goals as goal
 
 pub over_files-requires-clause-room : goal.over_files-requires-clause-room
 over_files-requires-clause-room c =
@@ -13,12 +13,12 @@ over_files-requires-clause-room c =
 
 pub over_files-requires-clause-named : goal.over_files-requires-clause-named
 over_files-requires-clause-named c =
-    names_enough c.args.names.items c.in_ok-more.more.items c.as_slice-3.result.now (seen c.args.found.now)
+    names_enough c.args.names.items c.in_ok-more.more.items c.in_ok-files.files.items (seen c.args.found.now)
     c.requires.lexed c.requires.named
-    (rw (c.as_slice.ensures.value, c.as_slice-2.ensures.value) at c.in_ok-more.ensures.names) (c.as_slice-3.ensures.value ∙ c.in_ok-files.ensures.names)
+    (rw (c.as_slice.ensures.value, c.as_slice-2.ensures.value) at c.in_ok-more.ensures.names) c.in_ok-files.ensures.names
 
 pub over_files-requires-clause-lines : goal.over_files-requires-clause-lines
 over_files-requires-clause-lines c =
-    lines_behind c.args.names.items c.in_ok-more.more.items c.as_slice-4.result.now c.names_behind.result.now c.len-count.result
-    (c.len-count.ensures ∙ c.args.names.ok.0) (c.as_slice-4.ensures.value ∙ c.in_ok-files.ensures.names) c.names_behind.ensures
+    lines_behind c.args.names.items c.in_ok-more.more.items c.in_ok-files.files.items (drop c.len-count.result c.in_ok-files.files.items)
+    c.len-count.result (c.len-count.ensures ∙ c.args.names.ok.0) c.in_ok-files.ensures.names refl
     ∙ (rw (c.as_slice.ensures.value, c.as_slice-2.ensures.value) at c.in_ok-more.ensures.names)
