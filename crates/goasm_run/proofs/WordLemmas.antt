@@ -1,5 +1,5 @@
 -- The words of amd64 are the names of its registers and conditions.
-use Rattle.std.proofs.Common.{◌≡◌, ◌↔◌, ◌⊎◌, ℕ, Bool, true, List, [], ◌∷◌, ◌++◌, map, get_or, codes, inl, inr, refl, sym, subst, ap, ◌∙◌}
+use Rattle.std.proofs.Common.{◌≡◌, ◌↔◌, ◌⊎◌, ℕ, Bool, true, false, List, [], ◌∷◌, ◌++◌, map, get_or, codes, inl, inr, refl, sym, subst, ap, ◌∙◌}
 use Rattle.std.specs.Prelude.{All, IsTrue}
 use Rattle.std.specs.Str.{bytes_eq}
 use Rattle.std.proofs.lemmas.Cmp.{nat_list_eq_equiv}
@@ -16,8 +16,7 @@ use Rattle.amd64_table.specs.Conditions.{cc_text}
 use Rattle.amd64_table.specs.Registers.{reg_text, xmm_text}
 use Rattle.amd64_forms.specs.Words.{IsRegister, IsCondition, IsWord}
 use Rattle.goasm_run.specs.declared.architecture.Architecture.TheVariants.{Amd64}
-use Rattle.goasm_run.specs.Targets.{registers, x_registers, conditions, words_of, is_word, amd64_words, amd64_kit}
-use Rattle.goasm_run.specs.UnitsSaid.{Decides, Serves}
+use Rattle.goasm_run.specs.Targets.{registers, x_registers, conditions, words_of, speaks, amd64_words}
 
 exact : (one other : List ℕ) → bytes_eq one other ≡ true → one ≡ other
 exact one other same = (bytes_eq-Decides one other).0 same
@@ -52,13 +51,13 @@ all_words =
     (All-append IsWord (texts ++ x_texts) condition_texts (All-append IsWord texts x_texts all_registers all_x_registers) all_conditions)
     all_others
 
-told_word : (name : List ℕ) → is_word Amd64 name ≡ true → IsWord name
+told_word : (name : List ℕ) → speaks Amd64 name ≡ true → IsWord name
 unfolding words_of
 told_word name is = All-contains IsWord amd64_words name all_words (Contains-from_any exact name amd64_words is)
 
 -- each word is among them
 
-register_in : (one : Reg) → is_word Amd64 (reg_text one) ≡ true
+register_in : (one : Reg) → speaks Amd64 (reg_text one) ≡ true
 unfolding words_of reg_text
 register_in reg.Ax = refl
 register_in reg.Cx = refl
@@ -77,7 +76,7 @@ register_in reg.R13 = refl
 register_in reg.R14 = refl
 register_in reg.R15 = refl
 
-x_register_in : (one : Xmm) → is_word Amd64 (xmm_text one) ≡ true
+x_register_in : (one : Xmm) → speaks Amd64 (xmm_text one) ≡ true
 unfolding words_of reg_text xmm_text
 x_register_in xmm.X0 = refl
 x_register_in xmm.X1 = refl
@@ -96,7 +95,7 @@ x_register_in xmm.X13 = refl
 x_register_in xmm.X14 = refl
 x_register_in xmm.X15 = refl
 
-condition_in : (one : Cc) → is_word Amd64 (cc_text one) ≡ true
+condition_in : (one : Cc) → speaks Amd64 (cc_text one) ≡ true
 unfolding words_of reg_text xmm_text cc_text
 condition_in cc.Over = refl
 condition_in cc.NotOver = refl
@@ -115,21 +114,25 @@ condition_in cc.GreaterOrEqual = refl
 condition_in cc.LessOrEqual = refl
 condition_in cc.Greater = refl
 
-other_in : (is_word Amd64 (codes "TLS") ≡ true) × (is_word Amd64 (codes "LO") ≡ true) × (is_word Amd64 (codes "HS") ≡ true)
+other_in : (speaks Amd64 (codes "TLS") ≡ true) × (speaks Amd64 (codes "LO") ≡ true) × (speaks Amd64 (codes "HS") ≡ true)
 unfolding words_of reg_text xmm_text cc_text
 other_in = (refl, refl, refl)
 
-word_told : (name : List ℕ) → IsWord name → is_word Amd64 name ≡ true
+word_told : (name : List ℕ) → IsWord name → speaks Amd64 name ≡ true
 unfolding IsRegister IsCondition
-word_told name (inl (inl (one, is))) = subst (λ name. is_word Amd64 name ≡ true) is (register_in one)
-word_told name (inl (inr (inl (one, is)))) = subst (λ name. is_word Amd64 name ≡ true) is (x_register_in one)
-word_told name (inl (inr (inr is))) = subst (λ name. is_word Amd64 name ≡ true) (sym is) other_in.0
-word_told name (inr (inl (one, is))) = subst (λ name. is_word Amd64 name ≡ true) is (condition_in one)
-word_told name (inr (inr (inl is))) = subst (λ name. is_word Amd64 name ≡ true) (sym is) other_in.1
-word_told name (inr (inr (inr is))) = subst (λ name. is_word Amd64 name ≡ true) (sym is) other_in.2
+word_told name (inl (inl (one, is))) = subst (λ name. speaks Amd64 name ≡ true) is (register_in one)
+word_told name (inl (inr (inl (one, is)))) = subst (λ name. speaks Amd64 name ≡ true) is (x_register_in one)
+word_told name (inl (inr (inr is))) = subst (λ name. speaks Amd64 name ≡ true) (sym is) other_in.0
+word_told name (inr (inl (one, is))) = subst (λ name. speaks Amd64 name ≡ true) is (condition_in one)
+word_told name (inr (inr (inl is))) = subst (λ name. speaks Amd64 name ≡ true) (sym is) other_in.1
+word_told name (inr (inr (inr is))) = subst (λ name. speaks Amd64 name ≡ true) (sym is) other_in.2
 
-pub amd64_serves : Serves amd64_kit Amd64
-amd64_serves = record {
-  words = λ name. (told_word name, word_told name);
-  answers = λ files units ending is. is;
-}
+same_truth : (one other : Bool) → (IsTrue one → IsTrue other) → (IsTrue other → IsTrue one) → one ≡ other
+same_truth true true to from = refl
+same_truth true false to from = sym (to refl)
+same_truth false true to from = from refl
+same_truth false false to from = refl
+
+pub amd64_word : (name : List ℕ) (answer : Bool) → IsTrue answer ↔ IsWord name → answer ≡ speaks Amd64 name
+amd64_word name answer says =
+    same_truth answer (speaks Amd64 name) (λ yes. word_told name (says.0 yes)) (λ yes. says.1 (told_word name yes))

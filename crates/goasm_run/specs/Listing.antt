@@ -11,7 +11,7 @@ use Rattle.goasm_run.specs.declared.architecture.Architecture.{Architecture}
 use Rattle.goasm_run.specs.Builds.{Judge, build_plan}
 use Rattle.goasm_run.specs.Plan.{Plan, Refuse, Pose}
 use Rattle.goasm_run.specs.Questions as question
-use Rattle.goasm_run.specs.Targets.{is_word}
+use Rattle.goasm_run.specs.Targets.{speaks}
 
 abbrev pub unit_of : (List ℕ → Bool) → Tokens → Result Said ParseNo
 unit_of word tokens = parsed word tokens.list
@@ -26,7 +26,7 @@ over_units architecture files (Err refused) = Refuse (line_of (Parse refused) fi
 
 -- all sources are parsed before an instruction is chosen
 abbrev pub listing_judge : Architecture → Judge
-listing_judge architecture files sources = over_units architecture files (units_of (is_word architecture) sources)
+listing_judge architecture files sources = over_units architecture files (units_of (speaks architecture) sources)
 
 abbrev pub listing_plan : Architecture → List ℕ → Plan
 listing_plan architecture list = build_plan (listing_judge architecture) list

@@ -44,8 +44,8 @@ amd64_words =
 unfoldable pub words_of : Architecture → List (List ℕ)
 words_of Amd64 = amd64_words
 
-abbrev pub is_word : Architecture → List ℕ → Bool
-is_word architecture name = list_any (bytes_eq name) (words_of architecture)
+abbrev pub speaks : Architecture → List ℕ → Bool
+speaks architecture name = list_any (bytes_eq name) (words_of architecture)
 
 -- statements of amd64 become these instructions
 abbrev pub amd64_kit : Kit Instr

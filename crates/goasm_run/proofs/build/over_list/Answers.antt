@@ -12,6 +12,6 @@ returns-in_err-list g c =
     builds_stopped shelf (λ judge. list_answer c.args.name.now (build_lines judge c.args.name.now) c.args.bytes.now)
     c.from_residual.result c.in_err-list.field-0.0 c.from_residual.ensures.1
     (λ judge.
-        let plan = list_answer c.args.name.now (build_lines judge c.args.name.now) c.args.bytes.now in
-        led_stopped shelf plan plan c.in_err-list.field-0.0 (leads_nowhere shelf.holds plan shelf.reads_now) (λ name. refl)
-        (c.in_err-list.ensures.stopped (build_lines judge c.args.name.now)))
+    let plan = list_answer c.args.name.now (build_lines judge c.args.name.now) c.args.bytes.now in
+    led_stopped shelf plan plan c.in_err-list.field-0.0 (leads_nowhere shelf.holds plan shelf.reads_now) (λ name. refl)
+    (c.in_err-list.ensures.stopped (build_lines judge c.args.name.now)))
