@@ -1,6 +1,7 @@
 -- Why units have no listing: each refusal has a cause, and stands in a file that has a name.
-use Rattle.std.proofs.Common.{◌≡◌, ◌≢◌, ◌+◌, ◌<◌, ◌≤◌, ◌⊎◌, ℕ, Bool, false, List, [], ◌∷◌, length, inl, inr, refl, arith, rules}
-use Rattle.std.specs.Prelude.{IsSome}
+use Rattle.std.proofs.Common.{◌≡◌, ◌≢◌, ◌+◌, ◌<◌, ◌≤◌, ◌⊎◌, ℕ, Bool, false, List, [], ◌∷◌, length, Result, Ok, Err, inl, inr, refl, sym, ap, arith, rules}
+use Rattle.std.specs.Prelude.{All, IsSome, IfOk, IfErr}
+use Rattle.asm_parse.specs.Valid.{IsValidUnit}
 use Rattle.goasm_base.specs.declared.pos.Pos.{Pos}
 use Rattle.goasm_base.specs.declared.statement.Stmt.{Stmt}
 use Rattle.asm_parse.specs.declared.parse_no.ParseNo.{ParseNo}
@@ -19,7 +20,16 @@ use Rattle.unit_listing.specs.Listing as listing
 use Rattle.unit_listing.specs.Listing.{IsFirstRefusal}
 use Rattle.goasm_text.specs.declared.refusal.Refusal.TheVariants.{Parse}
 use Rattle.goasm_text.specs.Lines.{HasCause, HasName, IsNamed, select_cause}
-use Rattle.goasm_run.specs.Questions.{told_as}
+use Rattle.goasm_run.specs.declared.architecture.Architecture.{Architecture}
+use Rattle.goasm_run.specs.declared.architecture.Architecture.TheVariants.{Amd64}
+use Rattle.goasm_run.specs.declared.stop.Stop.{Stop}
+use Rattle.goasm_run.specs.declared.stop.Stop.TheVariants as stops
+use Rattle.goasm_run.specs.Endings.{Text, Refusal}
+use Rattle.goasm_run.specs.Listing.{over_units}
+use Rattle.goasm_run.specs.Plan.{Pose}
+use Rattle.goasm_run.specs.Questions.{Listing, IsListed, told_as}
+use Rattle.goasm_run.specs.Stops.{ComesAtOnce, EndStopped, Settles}
+use Rattle.goasm_run.specs.UnitsSaid.{Serves, ListingStopped, IsUnparsed, IsUnlisted}
 
 -- a refusal of statements
 
@@ -99,3 +109,47 @@ listing_caused kit units (listings.Select place why) first fault =
     ])
 listing_caused kit units (listings.B1 place distance) first fault = search rules
 listing_caused kit units listings.Memory first fault = absurd (fault refl)
+
+-- why the listing stops
+
+pub listing_stopped : {Instr : Type 0} (kit : Kit Instr) (files : List (List ℕ)) (units : List Said) (one : ListingNo) (stop : Stop)
+    → (one ≢ listings.Memory → IsFirstRefusal kit units one) → IsUnlisted files one stop → ListingStopped kit files units stop
+listing_stopped kit files units one (stops.Refused line) first told = (one, first told.0, told.1)
+listing_stopped kit files units one stops.Words first told = told
+listing_stopped kit files units one stops.Memory first told = tt
+listing_stopped kit files units one (stops.Unread name) first told = told
+
+-- the only architecture so far
+pub only_amd64 : (architecture : Architecture) → architecture ≡ Amd64
+only_amd64 Amd64 = refl
+
+module _ {Instr : Type 0} (kit : Kit Instr) (architecture : Architecture) (files : List (List ℕ)) (serves : Serves kit architecture) where
+  -- where sources say no units
+  pub unparsed_settles : (said : Result (List Said) ParseNo) (one : ParseNo) (stop : Stop) (result : Result (List ℕ) Stop)
+      → result ≡ Err stop → (one ≢ parses.Memory → said ≡ Err one) → IsUnparsed files one stop
+      → Settles (over_units architecture files said) result
+  unparsed_settles said one (stops.Refused line) result is refused told =
+      rw (is, refused told.0) (record { text = tt; stopped = λ shelf before now same. (ap Refusal (sym told.1), same) })
+  unparsed_settles said one stops.Words result is refused told = absurd told
+  unparsed_settles said one stops.Memory result is refused told = rw is (record { text = tt; stopped = tt })
+  unparsed_settles said one (stops.Unread name) result is refused told = absurd told
+
+  listed_text : (units : List Said) → All IsValidUnit units → (text : List ℕ) → IsListed kit files units (Text text)
+      → ComesAtOnce (Pose (Listing architecture files units)) (Text text)
+  listed_text units valid text listed shelf before now same = (valid, serves files units (Text text) listed, same)
+
+  listed_stop : (units : List Said) → All IsValidUnit units → (stop : Stop) → ListingStopped kit files units stop
+      → EndStopped (Pose (Listing architecture files units)) stop
+  listed_stop units valid (stops.Refused line) stopped = λ shelf before now same. (valid, serves files units (Refusal line) stopped, same)
+  listed_stop units valid stops.Words stopped = stopped
+  listed_stop units valid stops.Memory stopped = tt
+  listed_stop units valid (stops.Unread name) stopped = stopped
+
+  -- where they say units
+  pub listed_settles : (said : Result (List Said) ParseNo) (units : List Said) (result : Result (List ℕ) Stop)
+      → said ≡ Ok units → All IsValidUnit units → IfOk result (λ text. IsListed kit files units (Text text))
+      → IfErr result (ListingStopped kit files units) → Settles (over_units architecture files said) result
+  listed_settles said units (Ok text) is valid listed stopped =
+      rw is (record { text = listed_text units valid text listed; stopped = tt })
+  listed_settles said units (Err stop) is valid listed stopped =
+      rw is (record { text = tt; stopped = listed_stop units valid stop stopped })

@@ -1,9 +1,12 @@
 -- How a target serves an architecture, and why units have no listing.
 use Rattle.std.specs.Prelude.{◌≡◌, ◌≢◌, ℕ, List}
+use Rattle.asm_parse.specs.declared.parse_no.ParseNo.{ParseNo}
+use Rattle.asm_parse.specs.declared.parse_no.ParseNo.TheVariants as parses
 use Rattle.asm_parse.specs.declared.unit.Unit.{Unit as Said}
 use Rattle.unit_listing.specs.declared.listing_no.ListingNo.{ListingNo}
 use Rattle.unit_listing.specs.declared.listing_no.ListingNo.TheVariants as listings
 use Rattle.unit_listing.specs.Kit.{Kit}
+use Rattle.goasm_text.specs.declared.refusal.Refusal.TheVariants.{Parse}
 use Rattle.goasm_text.specs.Lines.{line_of}
 use Rattle.goasm_run.specs.declared.architecture.Architecture.{Architecture}
 use Rattle.goasm_run.specs.declared.stop.Stop.{Stop}
@@ -25,9 +28,16 @@ ListingStopped kit files units stops.Words = ⊥
 ListingStopped kit files units stops.Memory = Unit {0}
 ListingStopped kit files units (stops.Unread name) = ⊥
 
+-- a refusal of statements is told by its line, or memory is wanting
+abbrev pub IsUnparsed : List (List ℕ) → ParseNo → Stop → Type 0
+IsUnparsed files refused (stops.Refused line) = (refused ≢ parses.Memory) × (line ≡ line_of (Parse refused) files)
+IsUnparsed files refused stops.Words = ⊥
+IsUnparsed files refused stops.Memory = Unit {0}
+IsUnparsed files refused (stops.Unread name) = ⊥
+
 -- a refusal of the listing is told by its line, or memory is wanting
-abbrev pub IsStopFor : List (List ℕ) → ListingNo → Stop → Type 0
-IsStopFor files refused (stops.Refused line) = (refused ≢ listings.Memory) × (line ≡ line_of (told_as refused) files)
-IsStopFor files refused stops.Words = ⊥
-IsStopFor files refused stops.Memory = Unit {0}
-IsStopFor files refused (stops.Unread name) = ⊥
+abbrev pub IsUnlisted : List (List ℕ) → ListingNo → Stop → Type 0
+IsUnlisted files refused (stops.Refused line) = (refused ≢ listings.Memory) × (line ≡ line_of (told_as refused) files)
+IsUnlisted files refused stops.Words = ⊥
+IsUnlisted files refused stops.Memory = Unit {0}
+IsUnlisted files refused (stops.Unread name) = ⊥

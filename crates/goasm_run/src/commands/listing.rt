@@ -7,6 +7,7 @@ ghost use Rattle.asm_parse.specs.Valid.{IsValidUnit};
 ghost use Rattle.asm_parse.specs.Words.{IsAskable, Tells};
 ghost use Rattle.unit_listing.specs.Kit.{kit_of};
 ghost use Rattle.unit_listing.specs.declared.listing_no.ListingNo.TheVariants as listings;
+ghost use Rattle.goasm_text.specs.declared.refusal.Refusal.TheVariants as refusals;
 ghost use Rattle.goasm_text.specs.Lines.{HasCause, HasName};
 ghost use Rattle.goasm_run.specs.declared.architecture.Architecture.{Architecture};
 ghost use Rattle.goasm_run.specs.declared.architecture.Architecture.TheVariants as spoken;
@@ -17,7 +18,7 @@ ghost use Rattle.goasm_run.specs.Listing.{units_of, listing_judge, listing_plan}
 ghost use Rattle.goasm_run.specs.Questions.{IsListed, told_as};
 ghost use Rattle.goasm_run.specs.Stops.{Settles, Answers};
 ghost use Rattle.goasm_run.specs.Targets.{speaks};
-ghost use Rattle.goasm_run.specs.UnitsSaid.{Serves, ListingStopped, IsStopFor};
+ghost use Rattle.goasm_run.specs.UnitsSaid.{Serves, ListingStopped, IsUnparsed, IsUnlisted};
 
 use crate::architecture::Architecture;
 use crate::build::built;
@@ -75,7 +76,6 @@ fn is_amd64_word(name: &[u8]) -> bool
 }
 
 // The listing of sources for a target with these words.
-#[tactic(auto, using(crate::proofs::ListingLemmas::parse_named, crate::proofs::ListingLemmas::parse_caused))]
 fn for_target<T: Target, W: Fn(&[u8]) -> bool + Copy>(
     alloc: Global,
     files: &[Name],
@@ -90,8 +90,22 @@ fn for_target<T: Target, W: Fn(&[u8]) -> bool + Copy>(
 {
     match units(alloc, sources, is_word) {
         Ok(units) => of_units::<T>(alloc, files, units.as_slice()),
-        Err(ParseNo::Memory) => Err(Stop::Memory),
-        Err(no) => Err(Stop::Refused(line_of(alloc, &Refusal::Parse(no), files)?)),
+        Err(no) => Err(unparsed(alloc, files, no)),
+    }
+}
+
+// Why sources say nothing.
+#[tactic(auto, using(crate::proofs::ListingLemmas::parse_caused))]
+fn unparsed(alloc: Global, files: &[Name], no: ParseNo) -> Stop
+    requires { HasName files.now (refusals.Parse no) }
+    ensures { IsUnparsed files.now no result }
+{
+    match no {
+        ParseNo::Memory => Stop::Memory,
+        no => match line_of(alloc, &Refusal::Parse(no), files) {
+            Ok(line) => Stop::Refused(line),
+            Err(Memory) => Stop::Memory,
+        },
     }
 }
 
@@ -127,15 +141,15 @@ fn of_units<T: Target>(alloc: Global, files: &[Name], units: &[Unit]) -> Result<
 {
     match unit_listing::listing::<T>(alloc, units) {
         Ok(text) => Ok(text),
-        Err(no) => Err(stop_for(alloc, files, no)),
+        Err(no) => Err(unlisted(alloc, files, no)),
     }
 }
 
 // Why there is no listing.
-fn stop_for(alloc: Global, files: &[Name], no: ListingNo) -> Stop
+fn unlisted(alloc: Global, files: &[Name], no: ListingNo) -> Stop
     requires cause { no ≢ listings.Memory → HasCause (told_as no) }
     requires files { HasName files.now (told_as no) }
-    ensures { IsStopFor files.now no result }
+    ensures { IsUnlisted files.now no result }
 {
     match no {
         ListingNo::Memory => Stop::Memory,
