@@ -1,8 +1,8 @@
 ghost use Rattle.std.specs.Prelude.{◌≡◌, ◌++◌, Bool, IfOk, OnOk};
 ghost use Rattle.goasm_run.specs.Changes.{shelf_change};
-ghost use Rattle.goasm_run.specs.Stops.{Answers};
+ghost use Rattle.goasm_run.specs.Stops.{Settles, Answers};
 ghost use Rattle.goasm_run.specs.Expand as spec;
-ghost use Rattle.goasm_run.specs.Expand.{list_text, expand_plan};
+ghost use Rattle.goasm_run.specs.Expand.{list_text, expand_judge, expand_plan};
 ghost use Rattle.goasm_run.specs.TokensWritten.{token_text};
 
 use crate::build::built;
@@ -17,7 +17,14 @@ pub fn expand<F: Shelf>(alloc: Global, shelf: &mut F, list: &[u8]) -> Result<Byt
     ensures { Answers (shelf_change F.holds F.faults F.reads shelf.old shelf.new) (expand_plan list.now) result }
 {
     let build = built(alloc, shelf, list)?;
-    Ok(text(alloc, build.files.as_slice(), build.sources.as_slice())?)
+    over_sources(alloc, build.files.as_slice(), build.sources.as_slice())
+}
+
+// The text of sources.
+fn over_sources(alloc: Global, files: &[Name], sources: &[Tokens]) -> Result<Bytes, Stop>
+    ensures { Settles (expand_judge files.now sources.now) result }
+{
+    Ok(text(alloc, files, sources)?)
 }
 
 #[tactic(auto, unfolding(crate::specs::Expand::expanded_text))]
