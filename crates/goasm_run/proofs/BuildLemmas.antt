@@ -12,7 +12,7 @@ use Rattle.goasm_run.specs.PartsRead.{LeadsTo}
 use Rattle.goasm_run.specs.Plan.{Plan, Ask}
 use Rattle.goasm_run.specs.Sources.{Sources, file_names, lexed}
 use Rattle.goasm_run.specs.Stops.{AnswerStopped, IsRead, Stopped}
-use Rattle.goasm_run.proofs.AnswerLemmas.{led_stopped, leads_nowhere}
+use Rattle.goasm_run.proofs.AnswerLemmas.{led_stopped}
 
 -- builds that read nothing
 

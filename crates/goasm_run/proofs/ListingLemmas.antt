@@ -1,7 +1,6 @@
 -- Why units have no listing: each refusal has a cause, and stands in a file that has a name.
-use Rattle.std.proofs.Common.{◌≡◌, ◌≢◌, ◌+◌, ◌<◌, ◌≤◌, ◌⊎◌, ℕ, Bool, false, List, [], ◌∷◌, length, Result, Ok, Err, inl, inr, refl, sym, ap, arith, rules}
-use Rattle.std.specs.Prelude.{All, IsSome, IfOk, IfErr}
-use Rattle.asm_parse.specs.Valid.{IsValidUnit}
+use Rattle.std.proofs.Common.{◌≡◌, ◌≢◌, ◌+◌, ◌<◌, ◌≤◌, ℕ, Bool, false, List, [], ◌∷◌, length, inl, inr, refl, arith, rules}
+use Rattle.std.specs.Prelude.{IsSome}
 use Rattle.goasm_base.specs.declared.pos.Pos.{Pos}
 use Rattle.goasm_base.specs.declared.statement.Stmt.{Stmt}
 use Rattle.asm_parse.specs.declared.parse_no.ParseNo.{ParseNo}
@@ -11,7 +10,7 @@ use Rattle.asm_parse.specs.Placed as placed
 use Rattle.asm_target.specs.declared.select_no.SelectNo.{SelectNo}
 use Rattle.asm_target.specs.declared.select_no.SelectNo.TheVariants as selects
 use Rattle.obj_rewrite.specs.Rewriting.{Code, Rules, Refuses}
-use Rattle.obj_rewrite.specs.Rewritten.{IsUnwritten, opened, appended}
+use Rattle.obj_rewrite.specs.Rewritten.{opened, appended}
 use Rattle.obj_rewrite.specs.Words.{is_goal}
 use Rattle.unit_listing.specs.declared.listing_no.ListingNo.{ListingNo}
 use Rattle.unit_listing.specs.declared.listing_no.ListingNo.TheVariants as listings
@@ -24,12 +23,8 @@ use Rattle.goasm_run.specs.declared.architecture.Architecture.{Architecture}
 use Rattle.goasm_run.specs.declared.architecture.Architecture.TheVariants.{Amd64}
 use Rattle.goasm_run.specs.declared.stop.Stop.{Stop}
 use Rattle.goasm_run.specs.declared.stop.Stop.TheVariants as stops
-use Rattle.goasm_run.specs.Endings.{Text, Refusal}
-use Rattle.goasm_run.specs.Listing.{over_units}
-use Rattle.goasm_run.specs.Plan.{Pose}
-use Rattle.goasm_run.specs.Questions.{Listing, IsListed, told_as}
-use Rattle.goasm_run.specs.Stops.{ComesAtOnce, EndStopped, Settles}
-use Rattle.goasm_run.specs.UnitsSaid.{Serves, ListingStopped, IsUnparsed, IsUnlisted}
+use Rattle.goasm_run.specs.Questions.{told_as}
+use Rattle.goasm_run.specs.UnitsSaid.{ListingStopped, IsUnlisted}
 
 -- a refusal of statements
 

@@ -1,4 +1,4 @@
-use Rattle.std.proofs.Common.{◌≡◌, ◌⊎◌, ℕ, List, Option, Some, inl, inr, refl, sym, subst, ap, ◌∙◌}
+use Rattle.std.proofs.Common.{◌≡◌, ◌⊎◌, ℕ, List, Option, Some, inl, inr, refl, sym, subst, ◌∙◌}
 use Rattle.goasm_base.specs.Shelf.{Files, ReadLog, read_of, with_read}
 use Rattle.goasm_run.specs.Changes.{ShelfChange}
 use Rattle.goasm_run.specs.Endings.{Ending, Text, Refusal, NoForm}

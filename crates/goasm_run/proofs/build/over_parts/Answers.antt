@@ -1,4 +1,4 @@
-use Rattle.std.proofs.Common.{Ok, ◌∙◌}
+use Rattle.std.proofs.Common.{Ok}
 use Rattle.goasm_run.specs.Builds.{over_sources, build_answer}
 use Rattle.goasm_run.specs.Sources.{seen}
 use Rattle.goasm_run.proofs.BuildLemmas.{makes_same, build_is}

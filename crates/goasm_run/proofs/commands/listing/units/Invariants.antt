@@ -1,4 +1,4 @@
-use Rattle.std.proofs.Common.{◌≡◌, ◌<◌, ℕ, Bool, List, drop}
+use Rattle.std.proofs.Common.{◌≡◌, ℕ, Bool, List, drop}
 use Rattle.std.specs.Prelude.{All}
 use Rattle.asm_parse.specs.Placed.{TokenIn, UnitIn}
 use Rattle.asm_parse.specs.Valid.{IsValidUnit}
