@@ -45,14 +45,3 @@ module _ (f : FlowFunction) where
         | true ↦ omega (arith, span_most (f.found k), lawful.within k inside)
         | false ↦ omega arith
       ]
-
-  -- behind the last instruction of the one before, the next begins
-  pub begins_anew : (k : ℕ) (before : Role) (found : Sequence) → LeadsTo f k before → before.past ≤ k → found ≡ sequence_at f k
-      → IsRole f k (record { start = k; past = k + span_of found; found = found })
-  begins_anew k before found leads low is =
-      let same : start_at f k ≡ k = leads.over low in
-      record {
-        start = sym same;
-        past = subst (λ (s : ℕ). k + span_of found ≡ s + span_at f s) (sym same) (ap (λ (q : Sequence). k + span_of q) is);
-        found = is ∙ ap (sequence_at f) (sym same);
-      }
