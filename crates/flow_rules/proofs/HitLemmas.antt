@@ -1,6 +1,5 @@
 -- Jumps into sequences.
-use Rattle.std.proofs.Common.{◌≡◌, ℕ, suc, ◌+◌, ◌-◌, ◌<◌, ◌≤◌, ◌==◌, true, false, Some, inl, inr, refl, sym, ◌∙◌, subst, arith}
-use Rattle.std.proofs.lemmas.Bool.{cases_order}
+use Rattle.std.proofs.Common.{◌≡◌, ℕ, suc, ◌+◌, ◌-◌, ◌<◌, ◌≤◌, ◌==◌, true, false, Some, refl, sym, subst, arith}
 use Rattle.std.proofs.lemmas.Bool.Decides.{Decides-eqb}
 use Rattle.asm_target.specs.FlowFunction.{FlowFunction, is_goal, is_target, jump_goal, next_at}
 use Rattle.asm_target.specs.Sequences.{count_of}
@@ -24,27 +23,6 @@ module _ (f : FlowFunction) where
     pub most : first ≤ f.count
     pub none : (i : ℕ) → i < n → Misses first i
     pub hit : first < f.count → IsBroken f first
-
-  pub spared_more : (first less n : ℕ) → Spared first n → less ≤ first → Misses less n → (less < first → IsBroken f less)
-      → Spared less (n + 1)
-  spared_more first less n spared low here hit =
-      let most = spared.most in
-      record {
-        most = omega arith;
-        none = λ i below s j before over more.
-            elim (cases_order i n) as (λ _. is_goal (jump_goal (next_at f i)) (f.at (s + j)) ≡ false) [
-              | inl same ↦
-                  subst (λ (m : ℕ). is_goal (jump_goal (next_at f m)) (f.at (s + j)) ≡ false) (sym same) (here s j before over more)
-              | inr (inl under) ↦ spared.none i under s j (omega arith) over more
-              | inr (inr past) ↦ absurd (omega arith)
-            ];
-        hit = λ inside.
-            elim (cases_order less first) as (λ _. IsBroken f less) [
-              | inl same ↦ subst (λ (m : ℕ). IsBroken f m) (sym same) (spared.hit (omega arith))
-              | inr (inl under) ↦ hit under
-              | inr (inr past) ↦ absurd (omega arith)
-            ];
-      }
 
   pub unhit : (first : ℕ) → Spared first f.count → AreUnhit f first
   unhit first spared s before order =
