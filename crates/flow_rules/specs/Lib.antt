@@ -1,0 +1,4 @@
+pub mod Lawful
+pub mod Placing
+pub mod CodeLaws
+pub mod Passing
