@@ -1,5 +1,5 @@
 -- Lines that do nothing, and behind them a branch to the first line.
-use Rattle.std.proofs.Common.{◌≡◌, ℕ, ◌+◌, ◌*◌, ◌^◌, ◌<◌, ◌≤◌, true, List, [], ◌∷◌, ◌++◌, length, map, Some, None, refl, ap, ◌∙◌, subst, arith}
+use Rattle.std.proofs.Common.{◌≡◌, ℕ, ◌+◌, ◌^◌, ◌<◌, ◌≤◌, true, List, [], ◌∷◌, ◌++◌, length, map, Some, None, refl, ap, ◌∙◌, subst, arith}
 use Rattle.std.specs.Prelude.{All, replicate}
 use Rattle.std.proofs.lemmas.List.{length-append, length-map, length-replicate}
 use Rattle.std.proofs.lemmas.List.Elements.{All-cons, All-head, All-nil, All-push, All-replicate, All-tail}
@@ -7,10 +7,9 @@ use Rattle.asm_target.specs.declared.body.Line.{Line}
 use Rattle.asm_target.specs.declared.frame.Guard.{Guard}
 use Rattle.asm_target.specs.declared.refer.Part.TheVariants.{Whole}
 use Rattle.asm_target.specs.declared.refer.Refer.{Refer}
-use Rattle.asm_target.specs.declared.refer.To.{To}
 use Rattle.asm_target.specs.declared.refer.To.TheVariants.{Entry}
 use Rattle.asm_target.specs.Aiming.{IsPickable}
-use Rattle.asm_target.specs.Goals.{HasGoal, IsBody, is_outside, line_of, longest, picked}
+use Rattle.asm_target.specs.Goals.{HasGoal, IsBody, line_of, longest, picked}
 use Rattle.asm_target.proofs.LongestLemmas.{most_long}
 use Rattle.asm_target_linked.specs.declared.instr.Instr.{Instr}
 use Rattle.asm_target_linked.specs.Forms.{aiming, is_directed}
