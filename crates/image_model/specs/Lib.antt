@@ -1,0 +1,6 @@
+pub mod Image
+pub mod Steps
+pub mod Kept
+pub mod Actions
+pub mod Soundness
+pub mod Joined
