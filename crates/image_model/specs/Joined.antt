@@ -1,11 +1,12 @@
 -- An image out of functions.
-use Rattle.std.specs.Prelude.{◌≡◌, ℕ, zero, suc, ◌+◌, ◌-◌, ◌<◌, ◌≤◌, ◌==◌, ◌&&◌, Bool, true, false, Option, Some, None, if◌then◌else◌}
+use Rattle.std.specs.Prelude.{◌≡◌, ℕ, zero, suc, ◌+◌, ◌-◌, ◌<◌, ◌≤◌, ◌==◌, ◌&&◌, Bool, true, false, Option, Some, None, is_some, if◌then◌else◌}
 use Rattle.std.specs.Option.{option_map, option_or}
 use Rattle.machine_effect.specs.declared.flow.Shape.{Shape}
 use Rattle.machine_effect.specs.declared.flow.SpMove.TheVariants.{Keep}
 use Rattle.machine_effect.specs.declared.next.Next.TheVariants as next
+use Rattle.machine_effect.specs.Applies.{link_of}
 use Rattle.machine_effect.specs.Flow.{flow_of}
-use Rattle.asm_target.specs.DepthChange.{depth_change}
+use Rattle.asm_target.specs.DepthChange.{depth_change, is_call}
 use Rattle.asm_target.specs.FlowFunction.{FlowFunction, Range, depth_view, is_within, role_at, start_at}
 use Rattle.asm_target.specs.FlowRules.{IsFlowSound}
 use Rattle.asm_target.specs.Runs.{PlacedEffect}
@@ -100,13 +101,15 @@ pub record IsText (text : Text) : Type 0 where
   pub growth : (at : ℕ) → text.is_growth_routine at ≡ true → is_within text.range at ≡ false
 
 -- A function's sequences lie apart and do what they're for; an instruction behind which the machine doesn't go on leaves the
--- stack pointer
+-- stack pointer; and a call links exactly where there is a link register
 pub record IsMachineCode (text : Text) (code : Code) : Type 0 where
   pub lawful : IsLawful code.rules
   pub acts : (k : ℕ) → k < code.rules.count
       → ActsAs text.shape (λ j. code.placed (k + j)) text.shape.link text.growth (code.rules.found k)
   pub still : (k : ℕ) → k < code.rules.count → ¬ ((code.placed k).effect.next ≡ next.Fall)
       → (flow_of (code.placed k).effect text.shape).sp ≡ Keep
+  pub links : (k : ℕ) → k < code.rules.count → is_call (code.placed k).effect.next ≡ true
+      → is_some (link_of (code.placed k).effect.next) ≡ is_some text.shape.link
 
 pub record IsMachine (text : Text) : Type 0 where
   pub registers : HasRegisters (joined text)

@@ -1,0 +1,4 @@
+pub mod PositionLemmas
+pub mod RuleLemmas
+pub mod ActionLemmas
+pub mod LineLemmas
