@@ -2,3 +2,4 @@ pub mod PositionLemmas
 pub mod RuleLemmas
 pub mod ActionLemmas
 pub mod LineLemmas
+pub mod SuitLemmas

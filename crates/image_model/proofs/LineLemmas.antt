@@ -31,7 +31,7 @@ use Rattle.image_model.proofs.PositionLemmas.{Counts, cases_counts}
 use Rattle.image_model.proofs.RuleLemmas as rules
 use Rattle.image_model.proofs.RuleLemmas.{and_off, first_depth, followed, not_off, or_off, unless_not}
 
-kept_is : (move : SpMove) → is_kept move ≡ true → move ≡ Keep
+pub kept_is : (move : SpMove) → is_kept move ≡ true → move ≡ Keep
 kept_is Keep is = refl
 kept_is (By k) is = absurd (cc)
 kept_is Other is = absurd (cc)
@@ -41,7 +41,7 @@ named_is register (Some link) is = ap Some (sym ((Decides-eqb link register).0 i
 named_is register None is = absurd (cc)
 
 -- a call that links, and not elsewhere
-linked_here : (made link : Option ℕ) → is_some made ≡ true → links_elsewhere made link ≡ false → made ≡ link
+pub linked_here : (made link : Option ℕ) → is_some made ≡ true → links_elsewhere made link ≡ false → made ≡ link
 linked_here (Some register) link some here = named_is register link (not_off (is_named register link) here)
 linked_here None link some here = absurd (cc)
 
@@ -49,11 +49,11 @@ if_off : (test one other : Bool) → test ≡ false → (if test then one else o
 if_off true one other is off = absurd (cc)
 if_off false one other is off = off
 
-if_on : (test one other : Bool) → test ≡ true → (if test then one else other) ≡ false → one ≡ false
+pub if_on : (test one other : Bool) → test ≡ true → (if test then one else other) ≡ false → one ≡ false
 if_on true one other is off = off
 if_on false one other is off = absurd (cc)
 
-left_off : (one other : Bool) → other ≡ false → (one && not other) ≡ false → one ≡ false
+pub left_off : (one other : Bool) → other ≡ false → (one && not other) ≡ false → one ≡ false
 left_off true true is off = absurd (cc)
 left_off true false is off = off
 left_off false other is off = refl
@@ -92,6 +92,10 @@ module _ (text : Text) (code : Code) (row : IsInRow code) (told : IsTold text co
   pub index_inside : (k : ℕ) → k - start_at f k < span_at f (start_at f k)
   index_inside k =
       omega (arith, positions.start_low f machine.lawful k, positions.start_inside f machine.lawful k)
+
+  -- the instructions of a line's sequence do what another is for
+  abbrev pub Acting : ℕ → Sequence → Type 0
+  Acting k role = ActsAs text.shape (line k).parts text.shape.link text.growth role
 
   pub acts : (k : ℕ) → k < f.count → ActsAs text.shape (line k).parts text.shape.link text.growth (role_at f k)
   acts k inside =
