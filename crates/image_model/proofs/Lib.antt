@@ -3,3 +3,4 @@ pub mod RuleLemmas
 pub mod ActionLemmas
 pub mod LineLemmas
 pub mod SuitLemmas
+pub mod WayLemmas

@@ -118,11 +118,12 @@ module _ (text : Text) (code : Code) (row : IsInRow code) (told : IsTold text co
       let acting = subst (λ (q : Sequence). lines.Acting text code row told machine sound k q) is (lines.acts text code row told machine sound k inside) in
       let most = growth_most text.shape (line_of code k).parts text.shape.link text.growth count acting in
       let within = machine.lawful.within s (omega arith) in
-      let goes = lines.next_is text code row told machine sound (s + (count - 2)) (omega arith) in
-      (lines.level text code row told machine sound k inside ∙ (Decides-eqb (f.depth s) 0).0 first.0,
-      sym (ap (λ (n : Next). is_among text.is_growth_routine (call_goal n)) goes)
-      ∙ sym (among_same f.is_growth_routine text.is_growth_routine told.is_growth_routine (call_goal (next_at f (s + (count - 2)))))
-      ∙ second.0)
+      let goes = lines.next_is text code row told machine sound (s + (count - 2)) (omega arith) in (
+        lines.level text code row told machine sound k inside ∙ (Decides-eqb (f.depth s) 0).0 first.0,
+        sym (ap (λ (n : Next). is_among text.is_growth_routine (call_goal n)) goes)
+            ∙ sym (among_same f.is_growth_routine text.is_growth_routine told.is_growth_routine (call_goal (next_at f (s + (count - 2)))))
+            ∙ second.0,
+      )
 
   pub suits : (k : ℕ) → k < f.count → (role : Sequence) → role_at f k ≡ role → SuitsRole (joined text) role (line_of code k)
   suits k inside Plain is = plain_line k inside is
