@@ -4,3 +4,5 @@ pub mod ActionLemmas
 pub mod LineLemmas
 pub mod SuitLemmas
 pub mod WayLemmas
+pub mod FindLemmas
+pub mod TextLemmas
