@@ -6,3 +6,4 @@ pub mod SuitLemmas
 pub mod WayLemmas
 pub mod FindLemmas
 pub mod TextLemmas
+pub mod ActsLemmas

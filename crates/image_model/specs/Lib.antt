@@ -4,3 +4,4 @@ pub mod Kept
 pub mod Actions
 pub mod Soundness
 pub mod Joined
+pub mod Listed
