@@ -7,3 +7,4 @@ pub mod WayLemmas
 pub mod FindLemmas
 pub mod TextLemmas
 pub mod ActsLemmas
+pub mod ListedLemmas

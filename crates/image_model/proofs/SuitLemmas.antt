@@ -8,7 +8,7 @@ use Rattle.machine_effect.specs.Applies.{link_of}
 use Rattle.asm_target.specs.declared.sequence.Sequence.{Sequence}
 use Rattle.asm_target.specs.declared.sequence.Sequence.TheVariants.{Plain, Saving, Restoring, Growth}
 use Rattle.asm_target.specs.DepthChange.{is_call}
-use Rattle.asm_target.specs.FlowFunction.{FlowFunction, call_goal, is_among, is_in_order, next_at, role_at, sequence_at, start_at}
+use Rattle.asm_target.specs.FlowFunction.{FlowFunction, call_goal, is_among, is_goal, is_in_order, jump_goal, next_at, role_at, sequence_at, start_at}
 use Rattle.asm_target.specs.FlowRules.{IsFlowSound, is_kept, links_elsewhere}
 use Rattle.asm_target.specs.FlowRules as flow
 use Rattle.asm_target.specs.Sequences.{count_of, is_growth, is_of_frame, is_plain, is_saving}
@@ -112,8 +112,10 @@ module _ (text : Text) (code : Code) (row : IsInRow code) (told : IsTold text co
       let s : ℕ = start_at f k in
       let low = positions.start_low f machine.lawful k in
       let there = found_is k (Growth count) is refl in
-      let first = and_both _ _ there.1 in
-      let second = and_both _ _ first.1 in
+      let test : Bool = is_among f.is_growth_routine (call_goal (next_at f (s + (count - 2)))) in
+      let back : Bool = is_goal (jump_goal (next_at f (s + (count - 1)))) (f.at 0) in
+      let first : ((f.depth s == 0) ≡ true) × ((test && back) ≡ true) = and_both (f.depth s == 0) (test && back) there.1 in
+      let second : (test ≡ true) × (back ≡ true) = and_both test back first.1 in
       let counted : count_of (f.found s) ≡ count = ap count_of there.0 in
       let acting = subst (λ (q : Sequence). lines.Acting text code row told machine sound k q) is (lines.acts text code row told machine sound k inside) in
       let most = growth_most text.shape (line_of code k).parts text.shape.link text.growth count acting in
