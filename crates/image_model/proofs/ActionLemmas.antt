@@ -1,9 +1,7 @@
 -- What follows from what a sequence does.
-use Rattle.std.proofs.Common.{◌≡◌, ℕ, ℤ, pos, zero, suc, ◌+◌, ◌-◌, ◌<◌, ◌≤◌, true, false, Option, Some, None, is_some, refl, arith}
+use Rattle.std.proofs.Common.{◌≡◌, ℕ, pos, suc, ◌<◌, ◌≤◌, true, false, Option, Some, None, is_some, refl, arith}
 use Rattle.machine_effect.specs.declared.flow.Shape.{Shape}
-use Rattle.machine_effect.specs.declared.flow.SpMove.TheVariants.{Keep}
 use Rattle.machine_effect.specs.declared.next.Next.TheVariants as next
-use Rattle.machine_effect.specs.Flow.{flow_of}
 use Rattle.asm_target.specs.declared.sequence.Sequence.{Sequence}
 use Rattle.asm_target.specs.declared.sequence.Sequence.TheVariants.{Plain, Saving, Restoring, Growth}
 use Rattle.asm_target.specs.Runs.{PlacedEffect}

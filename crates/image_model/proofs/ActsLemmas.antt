@@ -1,19 +1,16 @@
 -- What a target's sequence does, it does at its place in a function.
-use Rattle.std.proofs.Common.{◌≡◌, ℕ, zero, suc, List, [], ◌∷◌, ◌+◌, ◌-◌, ◌<◌, ◌≤◌, ◌^◌, ◌%◌, true, false, Option, Some, None, length, take, refl, sym, ap, ◌∙◌, subst, arith}
+use Rattle.std.proofs.Common.{◌≡◌, ℕ, zero, suc, List, [], ◌∷◌, ◌+◌, ◌-◌, ◌<◌, true, false, Option, Some, None, length, take, refl, sym, ap, ◌∙◌, subst, arith}
 use Rattle.std.specs.List.{slice_get}
 use Rattle.std.proofs.lemmas.Option.{slice_get_within}
 use Rattle.machine_effect.specs.declared.effect.Effect.{Effect}
 use Rattle.machine_effect.specs.declared.flow.Shape.{Shape}
 use Rattle.machine_effect.specs.Flow.{flow_of}
-use Rattle.machine_effect.specs.Memory.{word_at}
-use Rattle.machine_effect.specs.Values.{reg_of}
 use Rattle.asm_target.specs.declared.sequence.Sequence.{Sequence}
 use Rattle.asm_target.specs.declared.sequence.Sequence.TheVariants.{Plain, Saving, Restoring, Growth}
 use Rattle.asm_target.specs.InstructionSet.{InstructionSet}
 use Rattle.asm_target.specs.Runs.{Leads, PlacedEffect, effects_from}
 use Rattle.asm_target.specs.SequenceLaws.{DoesAs, IsGrowing, IsRestoring, IsSaving}
 use Rattle.asm_target.specs.Sequences.{count_of, is_plain}
-use Rattle.asm_target.proofs.PlaceLemmas.{item_at}
 use Rattle.asm_target.proofs.RunLemmas.{leads_same}
 use Rattle.image_model.specs.Actions.{ActsAs, GrowsStack, RestoresLink, SavesLink}
 

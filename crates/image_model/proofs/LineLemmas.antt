@@ -1,31 +1,28 @@
 -- The instructions of a function that breaks no flow rule.
-use Rattle.std.proofs.Common.{◌≡◌, ℕ, zero, suc, ℤ, pos, ◌+◌, ◌-◌, ◌<◌, ◌≤◌, ◌==◌, ◌&&◌, ◌||◌, ◌⊎◌, inl, inr, Bool, true, false, not, Option, Some, None, is_some, refl, sym, ap, ◌∙◌, subst, arith, if◌then◌else◌}
+use Rattle.std.proofs.Common.{◌≡◌, ℕ, zero, suc, pos, ◌+◌, ◌-◌, ◌<◌, ◌==◌, ◌&&◌, inl, inr, Bool, true, false, not, Option, Some, None, is_some, refl, sym, ap, ◌∙◌, subst, arith, if◌then◌else◌}
 use Rattle.std.proofs.lemmas.Bool.{cases_order}
-use Rattle.std.proofs.lemmas.Bool.Decides.{nat_tests, Decides-eqb}
+use Rattle.std.proofs.lemmas.Bool.Decides.{Decides-eqb}
 use Rattle.std.proofs.lemmas.Int.{ints}
-use Rattle.std.specs.Prelude.{◌+ℤ◌}
 use Rattle.machine_effect.specs.declared.flow.Flow.{Flow}
 use Rattle.machine_effect.specs.declared.flow.SpMove.{SpMove}
 use Rattle.machine_effect.specs.declared.flow.SpMove.TheVariants.{Keep, By, Other}
-use Rattle.machine_effect.specs.declared.next.Next.{Next}
 use Rattle.machine_effect.specs.declared.next.Next.TheVariants as next
-use Rattle.machine_effect.specs.Applies.{link_of}
 use Rattle.machine_effect.specs.Flow.{flow_of, is_named}
 use Rattle.asm_target.specs.declared.sequence.Sequence.{Sequence}
 use Rattle.asm_target.specs.declared.sequence.Sequence.TheVariants.{Plain, Saving, Restoring, Growth}
-use Rattle.asm_target.specs.DepthChange.{depth_added, depth_change, is_call, is_return, moved_by}
-use Rattle.asm_target.specs.FlowFunction.{FlowFunction, call_goal, depth_view, is_among, is_goal, is_in_order, is_last, jump_goal, next_at, role_at, sequence_at, span_at, start_at}
-use Rattle.asm_target.specs.FlowRules.{IsFlowSound, can_follow, can_pass, is_growth_call, is_kept, is_leaving, is_other, links_elsewhere}
-use Rattle.asm_target.specs.Sequences.{depth_added_by, is_growth, is_of_frame, is_plain, is_saving, span_of}
+use Rattle.asm_target.specs.DepthChange.{depth_change, moved_by}
+use Rattle.asm_target.specs.FlowFunction.{FlowFunction, depth_view, is_last, next_at, role_at, span_at, start_at}
+use Rattle.asm_target.specs.FlowRules.{IsFlowSound, can_follow, can_pass, is_kept, is_other, links_elsewhere}
+use Rattle.asm_target.specs.Sequences.{depth_added_by, is_plain, span_of}
 use Rattle.asm_target.proofs.DepthLemmas.{by_move}
 use Rattle.flow_rules.specs.Passing.{role_adds}
 use Rattle.flow_rules.proofs.ChangeLemmas.{changed_by_role}
 use Rattle.flow_rules.proofs.HitLemmas.{unequal}
 use Rattle.image_model.specs.Actions.{ActsAs}
-use Rattle.image_model.specs.Image.{Image, Line, flow_in, has_link, next_of}
+use Rattle.image_model.specs.Image.{Line, flow_in, has_link}
 use Rattle.image_model.specs.Joined.{Code, IsInRow, IsMachineCode, IsTold, Text, joined, line_of}
-use Rattle.image_model.specs.Soundness.{ChangesByMove, ChangesByRole, IsPlainLine, SuitsRole}
-use Rattle.image_model.proofs.ActionLemmas.{acts_linked, adds_nothing, falls_inside, growth_most}
+use Rattle.image_model.specs.Soundness.{ChangesByMove, ChangesByRole}
+use Rattle.image_model.proofs.ActionLemmas.{acts_linked, falls_inside}
 use Rattle.image_model.proofs.PositionLemmas as positions
 use Rattle.image_model.proofs.PositionLemmas.{Counts, cases_counts}
 use Rattle.image_model.proofs.RuleLemmas as rules

@@ -1,14 +1,14 @@
 -- Functions of a target's instructions make a text that is machine code.
-use Rattle.std.proofs.Common.{◌≡◌, ◌⊎◌, ℕ, zero, suc, List, [], ◌∷◌, ◌++◌, ◌+◌, ◌-◌, ◌<◌, ◌≤◌, ◌^◌, ◌==◌, Bool, true, false, Option, Some, None, is_some, length, map, take, drop, length-drop, refl, sym, ap, ◌∙◌, subst, arith, inl, inr}
+use Rattle.std.proofs.Common.{◌≡◌, ℕ, zero, suc, List, [], ◌∷◌, ◌+◌, ◌-◌, ◌<◌, ◌^◌, true, false, Option, Some, is_some, length, map, take, drop, length-drop, refl, sym, ap, ◌∙◌, subst, arith, inl, inr}
 use Rattle.std.specs.List.{slice_get}
 use Rattle.std.specs.Prelude.{All}
-use Rattle.std.proofs.lemmas.List.{drop-map, length-map, length-take-le}
+use Rattle.std.proofs.lemmas.List.{length-map, length-take-le}
 use Rattle.std.proofs.lemmas.List.Elements.{All-map, All-drop, All-head, All-tail, All-nil, All-cons}
 use Rattle.machine_effect.specs.declared.flow.Shape.{Shape}
 use Rattle.machine_effect.specs.declared.next.Next.{Next}
 use Rattle.machine_effect.specs.declared.next.Next.TheVariants as next
 use Rattle.machine_effect.specs.Applies.{link_of}
-use Rattle.machine_effect.specs.Bounds.{IsCallLink, LinksBy}
+use Rattle.machine_effect.specs.Bounds.{LinksBy}
 use Rattle.machine_effect.specs.Flow.{flow_of}
 use Rattle.asm_target.specs.declared.body.Placed.{Placed}
 use Rattle.asm_target.specs.declared.sequence.Sequence.{Sequence}
@@ -26,9 +26,8 @@ use Rattle.flow_rules.specs.declared.outside.Outside.{Outside}
 use Rattle.flow_rules.specs.CodeLaws.{lawful_code}
 use Rattle.flow_rules.specs.Placing.{ArePlaced, end_of, place_of}
 use Rattle.image_model.specs.Actions.{ActsAs}
-use Rattle.image_model.specs.Joined.{IsInRow, IsMachine, IsMachineCode, IsText, IsTold, joined}
+use Rattle.image_model.specs.Joined.{IsInRow, IsMachine, IsMachineCode, IsText, IsTold}
 use Rattle.image_model.specs.Listed.{AreFunctions, AreSpelled, Listed, code_of, placed_there, text_of}
-use Rattle.image_model.specs.Soundness.{HasRegisters}
 use Rattle.image_model.proofs.ActsLemmas.{acts_as}
 
 linked_call : (shape : Shape) (goes : Next) → LinksBy shape goes → is_call goes ≡ true → is_some (link_of goes) ≡ is_some shape.link

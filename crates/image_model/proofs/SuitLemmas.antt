@@ -1,9 +1,8 @@
 -- At which depth an instruction of a sequence stands, and what a plain one leaves alone.
-use Rattle.std.proofs.Common.{◌≡◌, ℕ, zero, suc, ℤ, pos, ◌+◌, ◌-◌, ◌<◌, ◌≤◌, ◌==◌, ◌&&◌, ◌||◌, Bool, true, false, not, Option, Some, None, is_some, refl, sym, ap, ◌∙◌, subst, arith, inl, inr}
+use Rattle.std.proofs.Common.{◌≡◌, ℕ, ◌+◌, ◌-◌, ◌<◌, ◌==◌, ◌&&◌, Bool, true, false, not, Option, Some, None, is_some, refl, sym, ap, ◌∙◌, subst, arith, inl, inr}
 use Rattle.std.proofs.lemmas.Bool.Decides.{nat_tests, Decides-eqb}
 use Rattle.machine_effect.specs.declared.flow.Flow.{Flow}
 use Rattle.machine_effect.specs.declared.next.Next.{Next}
-use Rattle.machine_effect.specs.declared.next.Next.TheVariants as next
 use Rattle.machine_effect.specs.Applies.{link_of}
 use Rattle.asm_target.specs.declared.sequence.Sequence.{Sequence}
 use Rattle.asm_target.specs.declared.sequence.Sequence.TheVariants.{Plain, Saving, Restoring, Growth}
@@ -11,8 +10,8 @@ use Rattle.asm_target.specs.DepthChange.{is_call}
 use Rattle.asm_target.specs.FlowFunction.{FlowFunction, call_goal, is_among, is_goal, is_in_order, jump_goal, next_at, role_at, sequence_at, start_at}
 use Rattle.asm_target.specs.FlowRules.{IsFlowSound, is_kept, links_elsewhere}
 use Rattle.asm_target.specs.FlowRules as flow
-use Rattle.asm_target.specs.Sequences.{count_of, is_growth, is_of_frame, is_plain, is_saving}
-use Rattle.image_model.specs.Image.{Line, flow_in, has_link, next_of, is_growth_call}
+use Rattle.asm_target.specs.Sequences.{count_of, is_of_frame, is_plain, is_saving}
+use Rattle.image_model.specs.Image.{flow_in, has_link, is_growth_call}
 use Rattle.image_model.specs.Joined.{Code, IsInRow, IsMachineCode, IsTold, Text, joined, line_of}
 use Rattle.image_model.specs.Soundness.{IsPlainLine, SuitsRole}
 use Rattle.image_model.proofs.ActionLemmas.{acts_linked, growth_most}

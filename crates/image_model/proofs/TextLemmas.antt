@@ -1,21 +1,24 @@
 -- The instructions of a text's functions stand apart, so each is found by its address.
-use Rattle.std.proofs.Common.{◌≡◌, ℕ, zero, suc, ◌+◌, ◌-◌, ◌<◌, ◌≤◌, ◌==◌, ◌&&◌, ◌⊎◌, Bool, true, false, Option, Some, None, refl, sym, ap, ◌∙◌, subst, arith, inl, inr}
+use Rattle.std.proofs.Common.{◌≡◌, ℕ, zero, suc, ◌+◌, ◌-◌, ◌<◌, ◌≤◌, ◌==◌, ◌&&◌, ◌⊎◌, Bool, true, false, Some, refl, sym, ap, ◌∙◌, subst, arith, inl, inr}
 use Rattle.std.proofs.lemmas.Bool.{cases_order}
 use Rattle.std.proofs.lemmas.Bool.Decides.{nat_tests, Decides-eqb}
 use Rattle.std.specs.Option.{option_map}
 use Rattle.asm_target.specs.FlowFunction.{is_within}
 use Rattle.asm_target.specs.FlowRules.{IsFlowSound}
 use Rattle.image_model.specs.Image.{Line, is_served}
-use Rattle.image_model.specs.Joined.{AreFlowSound, Code, IsInRow, IsMachine, IsSoundFunction, IsText, Text, call_behind, joined, line_of, only_if, position, some_below}
-use Rattle.image_model.specs.Soundness.{IsFirstLine, IsSound, IsSoundLine}
+use Rattle.image_model.specs.Joined.{AreFlowSound, Code, IsCallOf, IsInRow, IsLineOf, IsMachine, IsSoundFunction, IsText, Text, call_behind, joined, line_of, only_if, position}
+use Rattle.image_model.specs.Soundness.{IsSound, IsSoundLine}
 use Rattle.image_model.proofs.FindLemmas.{finds, map_some, only_here, only_some, some_is}
-use Rattle.image_model.proofs.PositionLemmas.{start_first}
 use Rattle.image_model.proofs.RuleLemmas.{first_depth}
 use Rattle.image_model.proofs.WayLemmas.{Stands, sound_function}
 
 both_on : (one other : Bool) → one ≡ true → other ≡ true → (one && other) ≡ true
 both_on true other first second = second
 both_on false other first second = absurd (cc)
+
+first_of : (one other : Bool) → (one && other) ≡ true → one ≡ true
+first_of true other is = refl
+first_of false other is = absurd (cc)
 
 second_of : (one other : Bool) → (one && other) ≡ true → other ≡ true
 second_of true other is = is
@@ -147,7 +150,7 @@ module _ (text : Text) (is : IsText text) where
       let stands = position_is i there.0 address there.1 in
       (there.0, stands.0, stands.1, there.2)
 
-  line_here : (i k : ℕ) → i < text.count → k < size i → (joined text).line_at (at i k) ≡ Some (line_of (text.code i) k)
+  pub line_here : (i k : ℕ) → i < text.count → k < size i → (joined text).line_at (at i k) ≡ Some (line_of (text.code i) k)
   line_here i k one inside =
       finds (λ j. option_map (line_of (text.code j)) (position (text.code j) (at i k))) text.count i (line_of (text.code i) k) one
       (ap (option_map (line_of (text.code i))) (position_here i k one inside)) (λ j line other found.
@@ -158,14 +161,15 @@ module _ (text : Text) (is : IsText text) where
   -- the end of a call tells its place
   call_is : (i address place : ℕ) → call_behind (text.code i) text.is_growth_routine address ≡ Some place
       → (k : ℕ) × (k < size i) × (past i k ≡ address) × (at i k ≡ place)
+      × (is_served text.is_growth_routine ((text.code i).placed k).effect.next ≡ true)
   call_is i address place found =
       let there = some_is (λ k. only_if (is_served text.is_growth_routine ((text.code i).placed k).effect.next && (past i k == address)) (at i k))
       (size i) place found in
       let only = only_some (is_served text.is_growth_routine ((text.code i).placed there.0).effect.next && (past i there.0 == address)) (at i there.0) place there.2 in
       let ends : (past i there.0 == address) ≡ true = second_of _ _ only.0 in
-      (there.0, there.1, (Decides-eqb (past i there.0) address).0 ends, only.1)
+      (there.0, there.1, (Decides-eqb (past i there.0) address).0 ends, only.1, first_of _ _ only.0)
 
-  call_here : (i k : ℕ) → i < text.count → k < size i
+  pub call_here : (i k : ℕ) → i < text.count → k < size i
       → is_served text.is_growth_routine ((text.code i).placed k).effect.next ≡ true
       → (joined text).after_call (past i k) ≡ Some (at i k)
   call_here i k one inside served =
@@ -217,34 +221,51 @@ module _ (text : Text) (is : IsText text) where
     served = λ k inside served. call_here i k one inside served;
   }
 
-  pub functions_sound : IsMachine text → AreFlowSound text → (i : ℕ) → i < text.count → IsSoundFunction (joined text) (text.code i)
-  functions_sound machine sound i one =
-      sound_function text (text.code i) (is.row i one) (is.told i one) (machine.code i one) (sound i one) (stands i one)
+  pub functions_sound : IsMachine text → (i : ℕ) → i < text.count → IsFlowSound (text.code i).rules
+      → IsSoundFunction (joined text) (text.code i)
+  functions_sound machine i one sound =
+      sound_function text (text.code i) (is.row i one) (is.told i one) (machine.code i one) sound (stands i one)
 
   -- what stands at an address is an instruction of a function
-  pub stands_in : (address : ℕ) (line : Line) → (joined text).line_at address ≡ Some line
-      → (i : ℕ) × (i < text.count) × ((k : ℕ) × (k < size i) × (at i k ≡ address) × (line_of (text.code i) k ≡ line))
-  stands_in address line found =
+  pub line_found : (address : ℕ) (line : Line) → (joined text).line_at address ≡ Some line → IsLineOf text address line
+  line_found address line found =
       let there = some_is (λ i. option_map (line_of (text.code i)) (position (text.code i) address)) text.count line found in
-      (there.0, there.1, line_is there.0 line address there.2)
+      let k = line_is there.0 line address there.2 in
+      record { function = there.0; known = there.1; position = k.0; inside = k.1; at = k.2; line_is = k.3 }
+
+  pub call_found : (address place : ℕ) → (joined text).after_call address ≡ Some place → IsCallOf text address place
+  call_found address place found =
+      let there = some_is (λ i. call_behind (text.code i) text.is_growth_routine address) text.count place found in
+      let k = call_is there.0 address place there.2 in
+      record {
+        function = there.0;
+        known = there.1;
+        position = k.0;
+        inside = k.1;
+        past = k.2;
+        at = k.3;
+        served = k.4;
+      }
 
   pub joined_sound : IsMachine text → AreFlowSound text → IsSound (joined text)
   joined_sound machine sound = record {
     registers = machine.registers;
     lines = λ address line found.
-        let there = stands_in address line found in
-        let k : ℕ = there.2.0 in
-        let function = functions_sound machine sound there.0 there.1 in
-        subst (λ (a : ℕ). IsSoundLine (joined text) a line) there.2.2
-        (subst (λ (l : Line). IsSoundLine (joined text) (at there.0 k) l) there.2.3 (function.lines k there.2.1));
+        let there = line_found address line found in
+        let function = functions_sound machine there.function there.known (sound there.function there.known) in
+        subst (λ (a : ℕ). IsSoundLine (joined text) a line) there.at
+        (subst (λ (l : Line). IsSoundLine (joined text) (at there.function there.position) l) there.line_is
+        (function.lines there.position there.inside));
     inside = λ address line found.
-        let there = stands_in address line found in
-        let row = is.row there.0 there.1 in
-        let low = from (text.code there.0) row there.2.0 there.2.1 in
-        let high = upto (text.code there.0) row there.2.0 there.2.1 in
-        let long = row.long there.2.0 there.2.1 in
-        own_inside there.0 address there.1 (within_by (text.code there.0).rules.own.first (text.code there.0).rules.own.past address
-        (omega (arith, there.2.2)) (omega (arith, there.2.2)));
+        let there = line_found address line found in
+        let i : ℕ = there.function in
+        let k : ℕ = there.position in
+        let row = is.row i there.known in
+        let low = from (text.code i) row k there.inside in
+        let high = upto (text.code i) row k there.inside in
+        let long = row.long k there.inside in
+        own_inside i address there.known (within_by (text.code i).rules.own.first (text.code i).rules.own.past address
+        (omega (arith, there.at)) (omega (arith, there.at)));
     entries = λ address entry.
         let there = is.entries address entry in
         let row = is.row there.0 there.1 in

@@ -1,5 +1,5 @@
 -- Where the machine goes on from an instruction of a function that breaks no flow rule.
-use Rattle.std.proofs.Common.{◌≡◌, ℕ, zero, suc, ℤ, pos, ◌+◌, ◌-◌, ◌<◌, ◌≤◌, ◌==◌, ◌&&◌, ◌||◌, Bool, true, false, not, Option, Some, None, is_some, refl, sym, ap, ◌∙◌, subst, arith, inl, inr, if◌then◌else◌}
+use Rattle.std.proofs.Common.{◌≡◌, ℕ, zero, suc, pos, ◌+◌, ◌-◌, ◌<◌, ◌==◌, ◌||◌, Bool, true, false, not, Some, refl, sym, ap, ◌∙◌, subst, arith, inl, inr, if◌then◌else◌}
 use Rattle.std.proofs.lemmas.Bool.{cases_order}
 use Rattle.std.proofs.lemmas.Bool.Decides.{nat_tests, Decides-eqb}
 use Rattle.std.proofs.lemmas.Int.{ints}
@@ -7,10 +7,10 @@ use Rattle.machine_effect.specs.declared.flow.Flow.{Flow}
 use Rattle.machine_effect.specs.declared.flow.SpMove.TheVariants.{Keep}
 use Rattle.machine_effect.specs.declared.next.Next.{Next}
 use Rattle.machine_effect.specs.declared.next.Next.TheVariants as next
-use Rattle.asm_target.specs.DepthChange.{any_below, depth_added, depth_change, is_call, is_return, moved_by}
-use Rattle.asm_target.specs.FlowFunction.{FlowFunction, Range, depth_view, is_among, is_goal, is_within, jump_goal, next_at, role_at, sequence_at, span_at, start_at}
-use Rattle.asm_target.specs.FlowRules.{IsFlowSound, can_follow, can_pass, is_indirect_jump, is_leaving, is_start, is_stray}
-use Rattle.image_model.specs.Image.{IsOutside, Line, flow_in, has_link, is_served, next_of}
+use Rattle.asm_target.specs.DepthChange.{any_below, depth_added, is_call, is_return, moved_by}
+use Rattle.asm_target.specs.FlowFunction.{FlowFunction, Range, is_among, is_goal, is_within, jump_goal, next_at, role_at, sequence_at, span_at, start_at}
+use Rattle.asm_target.specs.FlowRules.{IsFlowSound, can_pass, is_indirect_jump, is_leaving, is_start, is_stray}
+use Rattle.image_model.specs.Image.{Line, flow_in, has_link, is_served, next_of}
 use Rattle.image_model.specs.Joined.{Code, IsInRow, IsMachineCode, IsSoundFunction, IsTold, Text, joined, line_of}
 use Rattle.image_model.specs.Soundness.{Follows, Lands}
 use Rattle.image_model.proofs.ActionLemmas.{adds_nothing}

@@ -12,7 +12,7 @@ use Rattle.asm_target.specs.FlowRules.{IsFlowSound}
 use Rattle.asm_target.specs.Runs.{PlacedEffect}
 use Rattle.flow_rules.specs.Lawful.{IsLawful}
 use Rattle.image_model.specs.Actions.{ActsAs}
-use Rattle.image_model.specs.Image.{Image, IsOutside, Line, is_served}
+use Rattle.image_model.specs.Image.{Image, Line, is_served}
 use Rattle.image_model.specs.Soundness.{HasRegisters, IsSoundLine}
 
 -- a function as the flow rules see it, and what each of its instructions does at its place
@@ -123,3 +123,22 @@ AreFlowSound text = (i : ℕ) → i < text.count → IsFlowSound (text.code i).r
 pub record IsSoundFunction (img : Image) (code : Code) : Type 0 where
   pub stands : (k : ℕ) → k < code.rules.count → img.line_at (code.rules.at k) ≡ Some (line_of code k)
   pub lines : (k : ℕ) → k < code.rules.count → IsSoundLine img (code.rules.at k) (line_of code k)
+
+-- an instruction of a function stands at the address
+pub record IsLineOf (text : Text) (address : ℕ) (line : Line) : Type 0 where
+  pub function : ℕ
+  pub known : function < text.count
+  pub position : ℕ
+  pub inside : position < (text.code function).rules.count
+  pub at : (text.code function).rules.at position ≡ address
+  pub line_is : line_of (text.code function) position ≡ line
+
+-- a call that isn't one of a routine that grows the stack stands at the place and ends at the address
+pub record IsCallOf (text : Text) (address place : ℕ) : Type 0 where
+  pub function : ℕ
+  pub known : function < text.count
+  pub position : ℕ
+  pub inside : position < (text.code function).rules.count
+  pub past : ((text.code function).placed position).past ≡ address
+  pub at : (text.code function).rules.at position ≡ place
+  pub served : is_served text.is_growth_routine ((text.code function).placed position).effect.next ≡ true

@@ -1,10 +1,10 @@
 -- Instructions of a target at their places, as the functions of an image.
-use Rattle.std.specs.Prelude.{◌≡◌, ◌↔◌, ℕ, suc, ◌+◌, ◌-◌, ◌<◌, ◌≤◌, ◌==◌, List, All, true, false, length, Option, Some, None}
+use Rattle.std.specs.Prelude.{◌≡◌, ℕ, ◌+◌, ◌-◌, ◌<◌, ◌≤◌, ◌==◌, List, All, true, false, length, Option, Some, None}
 use Rattle.std.specs.List.{slice_get, list_any}
 use Rattle.machine_effect.specs.declared.flow.Shape.{Shape}
 use Rattle.asm_target.specs.declared.body.Placed.{Placed}
 use Rattle.asm_target.specs.declared.sequence.Sequence.{Sequence}
-use Rattle.asm_target.specs.FlowFunction.{Range, is_within}
+use Rattle.asm_target.specs.FlowFunction.{is_within}
 use Rattle.asm_target.specs.InstructionSet.{InstructionSet}
 use Rattle.asm_target.specs.Runs.{PlacedEffect, stopped}
 use Rattle.flow_rules.specs.declared.outside.Outside.{Outside}

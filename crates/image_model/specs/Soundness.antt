@@ -1,7 +1,6 @@
 -- What an image has to be for its calls to be known at each moment of a run.
-use Rattle.std.specs.Prelude.{◌≡◌, ◌⊎◌, ℕ, suc, ℤ, pos, ◌+◌, ◌-◌, ◌+ℤ◌, ◌<◌, ◌≤◌, Bool, true, false, Option, Some, None}
+use Rattle.std.specs.Prelude.{◌≡◌, ℕ, suc, pos, ◌-◌, ◌+ℤ◌, ◌<◌, true, false, Some}
 use Rattle.machine_effect.specs.declared.flow.SpMove.TheVariants.{Keep}
-use Rattle.machine_effect.specs.declared.next.Next.{Next}
 use Rattle.machine_effect.specs.declared.next.Next.TheVariants as next
 use Rattle.machine_effect.specs.Applies.{link_of}
 use Rattle.asm_target.specs.declared.sequence.Sequence.{Sequence}
@@ -9,7 +8,7 @@ use Rattle.asm_target.specs.declared.sequence.Sequence.TheVariants.{Plain, Savin
 use Rattle.asm_target.specs.DepthChange.{is_call, is_return, moved_by}
 use Rattle.asm_target.specs.FlowFunction.{is_within, jump_goal}
 use Rattle.asm_target.specs.FlowRules.{can_pass, is_indirect_jump, is_other}
-use Rattle.asm_target.specs.Sequences.{depth_added_by, is_plain, span_of}
+use Rattle.asm_target.specs.Sequences.{depth_added_by, span_of}
 use Rattle.image_model.specs.Actions.{ActsAs}
 use Rattle.image_model.specs.Image.{Image, IsOutside, Line, flow_in, has_link, is_growth_call, is_served, next_of}
 

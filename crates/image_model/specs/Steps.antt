@@ -1,9 +1,7 @@
 -- The steps of a machine over an image. One step is one instruction, or all that is done outside the image by one call, jump or
 -- system call.
-use Rattle.std.specs.Prelude.{◌≡◌, ℕ, ℤ, pos, ◌+◌, ◌-◌, ◌+ℤ◌, ◌-ℤ◌, ◌≤ℤ◌, ◌<ℤ◌, ◌≤◌, ◌<◌, ◌^◌, ◌&&◌, Bool, true, false, not, nat_le, nat_lt, List, [], ◌∷◌, slice_set, Option, Some, None, IsSome, if◌then◌else◌}
+use Rattle.std.specs.Prelude.{◌≡◌, ℕ, ℤ, pos, ◌+◌, ◌-◌, ◌+ℤ◌, ◌-ℤ◌, ◌≤ℤ◌, ◌<ℤ◌, ◌≤◌, ◌<◌, ◌^◌, ◌&&◌, Bool, true, false, not, nat_le, nat_lt, List, ◌∷◌, slice_set, Option, Some, None, IsSome, if◌then◌else◌}
 use Rattle.std.specs.Option.{option_map}
-use Rattle.machine_effect.specs.declared.effect.Access.{Access}
-use Rattle.machine_effect.specs.declared.effect.Value.{Value}
 use Rattle.machine_effect.specs.declared.flow.SpMove.{SpMove}
 use Rattle.machine_effect.specs.declared.flow.SpMove.TheVariants.{By}
 use Rattle.machine_effect.specs.declared.frame.Frame.{Frame}
