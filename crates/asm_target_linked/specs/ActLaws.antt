@@ -1,5 +1,5 @@
 -- The laws of sequences and of the check.
-use Rattle.std.specs.Int.{w8, w32}
+use Rattle.std.specs.Int.{w8, w16}
 use Rattle.std.specs.Prelude.{All, FitsSigned, ℤ, pos, ◌-ℤ◌, if◌then◌else◌, nat_le}
 use Rattle.std.proofs.Common.{◌≡◌, ℕ, zero, suc, List, [], ◌∷◌, ◌++◌, ◌+◌, ◌<◌, ◌≤◌, ◌&&◌, true, false, Some, None, length, take, refl, sym, ap, ◌∙◌, arith, subst}
 use Rattle.std.proofs.lemmas.Bool.Decides.{nat_tests}
@@ -242,7 +242,7 @@ limit_pick = record {
 near_fit : FitsSigned w8 (pos 0)
 near_fit = omega (arith, ints)
 
-far_fit : FitsSigned w32 (pos 0)
+far_fit : FitsSigned w16 (pos 0)
 far_fit = omega (arith, ints)
 
 past_pick : IsBranchPick linked Fits begins riscv64.shape aiming to.Past (goes (Near false (pos 0)) to.Past)

@@ -1,5 +1,5 @@
 -- The laws of forms and of aiming.
-use Rattle.std.specs.Int.{w8, w32}
+use Rattle.std.specs.Int.{w8, w16}
 use Rattle.std.specs.Prelude.{All, FitsSigned, ℤ, pos, negsuc, ◌-ℤ◌, ◌≤ℤ◌, Bool}
 use Rattle.std.proofs.Common.{◌≡◌, ◌↔◌, ℕ, zero, suc, List, [], ◌∷◌, ◌++◌, ◌+◌, ◌-◌, ◌%◌, ◌^◌, ◌<◌, ◌≤◌, true, false, not, Some, length, refl, sym, ap, ◌∙◌, arith, subst}
 use Rattle.std.proofs.lemmas.Int.{ints}
@@ -23,7 +23,7 @@ use Rattle.asm_target_linked.specs.Forms.{aiming, is_directed, undirected}
 one_fit : (i : Instr) → Fits i → All Fits (i ∷ [])
 one_fit i fit = All-cons Fits i [] fit (All-nil Fits)
 
-widened : (d : ℤ) → FitsSigned w8 d → FitsSigned w32 d
+widened : (d : ℤ) → FitsSigned w8 d → FitsSigned w16 d
 widened (pos n) fit = omega (arith, ints)
 widened (negsuc n) fit = omega (arith, ints)
 
@@ -181,12 +181,12 @@ holds_goals = record {
 }
 
 -- distances
-distance_to : (place goal : ℕ) (d : ℤ) → place < 2 ^ 32 → goal < 2 ^ 32 → FitsSigned w32 d → goal_of place d ≡ goal
+distance_to : (place goal : ℕ) (d : ℤ) → place < 2 ^ 32 → goal < 2 ^ 32 → FitsSigned w16 d → goal_of place d ≡ goal
     → d ≡ pos goal -ℤ pos place
 distance_to place goal (pos n) low near fit is = omega (arith, ints)
 distance_to place goal (negsuc n) low near fit is = omega (arith, ints)
 
-distance_from : (place goal : ℕ) (d : ℤ) → place < 2 ^ 32 → goal < 2 ^ 32 → FitsSigned w32 d → d ≡ pos goal -ℤ pos place
+distance_from : (place goal : ℕ) (d : ℤ) → place < 2 ^ 32 → goal < 2 ^ 32 → FitsSigned w16 d → d ≡ pos goal -ℤ pos place
     → goal_of place d ≡ goal
 distance_from place goal (pos n) low near fit is = omega (arith, ints)
 distance_from place goal (negsuc n) low near fit is = omega (arith, ints)
@@ -199,11 +199,11 @@ near_fits : (d : ℤ) → negsuc 127 ≤ℤ d → d ≤ℤ pos 127 → FitsSigne
 near_fits (pos n) low high = omega (arith, ints)
 near_fits (negsuc n) low high = omega (arith, ints)
 
-far_within : (d : ℤ) → FitsSigned w32 d → (negsuc (2 ^ 31 - 1) ≤ℤ d) × (d ≤ℤ pos (2 ^ 31 - 1))
+far_within : (d : ℤ) → FitsSigned w16 d → (negsuc (2 ^ 15 - 1) ≤ℤ d) × (d ≤ℤ pos (2 ^ 15 - 1))
 far_within (pos n) fit = (omega (arith, ints), omega (arith, ints))
 far_within (negsuc n) fit = (omega (arith, ints), omega (arith, ints))
 
-far_fits : (d : ℤ) → negsuc (2 ^ 31 - 1) ≤ℤ d → d ≤ℤ pos (2 ^ 31 - 1) → FitsSigned w32 d
+far_fits : (d : ℤ) → negsuc (2 ^ 15 - 1) ≤ℤ d → d ≤ℤ pos (2 ^ 15 - 1) → FitsSigned w16 d
 far_fits (pos n) low high = omega (arith, ints)
 far_fits (negsuc n) low high = omega (arith, ints)
 
@@ -236,17 +236,17 @@ near_reach held d = record {
 
 far_reach : (call : Bool) (d : ℤ) → HasReach linked Fits aiming 4 (Far call d)
 far_reach call d = record {
-  low = negsuc (2 ^ 31 - 1);
-  high = pos (2 ^ 31 - 1);
+  low = negsuc (2 ^ 15 - 1);
+  high = pos (2 ^ 15 - 1);
   low_most = omega (arith, ints);
   high_least = omega (arith, ints);
   reach = λ place goal low near whole. (
     λ can.
         let kind = aimed_far call d can.0 can.1.same in
-        let fit : FitsSigned w32 kind.0 = subst Fits kind.1 can.1.fit in
+        let fit : FitsSigned w16 kind.0 = subst Fits kind.1 can.1.fit in
         let at_goal : goal_of place kind.0 ≡ goal =
         some_same _ _ (ap (λ (k : Instr). aiming.held k Whole place) (sym kind.1) ∙ can.1.aimed) in
-        subst (λ (e : ℤ). (negsuc (2 ^ 31 - 1) ≤ℤ e) × (e ≤ℤ pos (2 ^ 31 - 1))) (distance_to place goal kind.0 low near fit at_goal)
+        subst (λ (e : ℤ). (negsuc (2 ^ 15 - 1) ≤ℤ e) × (e ≤ℤ pos (2 ^ 15 - 1))) (distance_to place goal kind.0 low near fit at_goal)
         (far_within kind.0 fit),
     λ bounds.
         let e : ℤ = pos goal -ℤ pos place in

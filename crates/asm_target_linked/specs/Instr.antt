@@ -1,6 +1,6 @@
 -- What the instructions mean: spellings, effects and texts.
 use Rattle.std.specs.Prelude.{ℕ, ℤ, pos, ◌-ℤ◌, Bool, true, false, List, [], ◌∷◌, ◌++◌, ◌+◌, ◌%◌, ◌^◌, ◌<◌, ◌==◌, codes, FitsSigned, Some, None, if◌then◌else◌}
-use Rattle.std.specs.Int.{w8, w32, w64, cast_unsigned, to_le_bytes}
+use Rattle.std.specs.Int.{w8, w16, w32, w64, cast_unsigned, to_le_bytes}
 use Rattle.goasm_base.specs.Numbers.{hex_text, decimal_text}
 use Rattle.machine_effect.specs.declared.cond.Cond.{Cond}
 use Rattle.machine_effect.specs.declared.cond.Cond.TheVariants as cond
@@ -67,24 +67,27 @@ abbrev pub far_code : Bool → ℕ
 far_code true = 49
 far_code false = 48
 
--- four bytes, and eight
+-- four bytes, and eight with a number of four or of two
 abbrev pub short : ℕ → ℕ → List ℕ
 short code number = code ∷ number ∷ 0 ∷ 0 ∷ []
 
 abbrev pub long : ℕ → ℕ → List ℕ
 long code number = code ∷ 0 ∷ 0 ∷ 0 ∷ to_le_bytes w32 number
 
+abbrev pub far : ℕ → ℕ → List ℕ
+far code number = code ∷ 0 ∷ 0 ∷ 0 ∷ 0 ∷ 0 ∷ to_le_bytes w16 number
+
 abbrev pub spelling_of : Instr → List ℕ
 spelling_of (Plain op) = short (code_of op) 0
 spelling_of (Frame op bytes) = long (frame_code op) bytes
 spelling_of (Near held distance) = short (near_code held) (cast_unsigned w8 distance)
-spelling_of (Far call distance) = long (far_code call) (cast_unsigned w32 distance)
+spelling_of (Far call distance) = far (far_code call) (cast_unsigned w16 distance)
 
 abbrev pub Fits : Instr → Type 0
 Fits (Plain op) = Unit {0}
 Fits (Frame op bytes) = bytes < 2 ^ 32
 Fits (Near held distance) = FitsSigned w8 distance
-Fits (Far call distance) = FitsSigned w32 distance
+Fits (Far call distance) = FitsSigned w16 distance
 
 -- an effect that writes nothing
 abbrev pub going : Next → Effect

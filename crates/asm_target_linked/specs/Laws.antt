@@ -1,9 +1,9 @@
 -- The laws of processors.
-use Rattle.std.specs.Int.{w8, w32, cast_signed, cast_unsigned, from_le_bytes, to_le_bytes}
+use Rattle.std.specs.Int.{w8, w16, cast_signed, cast_unsigned, from_le_bytes, to_le_bytes}
 use Rattle.std.specs.Prelude.{All, FitsSigned, pos, ◌-ℤ◌, slice_index}
 use Rattle.std.proofs.Common.{◌≡◌, ℕ, ℤ, List, [], ◌∷◌, ◌++◌, ◌+◌, ◌/◌, ◌%◌, ◌^◌, ◌<◌, ◌≤◌, true, false, Some, length, drop, refl, ap, ◌∙◌, arith, inl, inr}
 use Rattle.std.proofs.lemmas.Int.{to_z-of_z, ints}
-use Rattle.std.proofs.lemmas.Nat.{from_le_bytes-to_le_bytes_4}
+use Rattle.std.proofs.lemmas.Nat.{from_le_bytes-to_le_bytes_2, from_le_bytes-to_le_bytes_4}
 use Rattle.std.proofs.lemmas.Bool.Decides.{nat_tests}
 use Rattle.std.proofs.lemmas.List.Elements.{All-nil, All-cons}
 use Rattle.machine_effect.specs.declared.effect.Atom.{Atom}
@@ -32,13 +32,13 @@ lengths (Frame op bytes) fits = record { least = omega arith; most = omega arith
 lengths (Near held distance) fits = record { least = omega arith; most = omega arith; whole = refl }
 lengths (Far call distance) fits = record { least = omega arith; most = omega arith; whole = refl }
 
--- four bytes give their number back
-distance_back : (distance : ℤ) → FitsSigned w32 distance
-    → cast_signed w32 (from_le_bytes w32 (to_le_bytes w32 (cast_unsigned w32 distance))) ≡ distance
+-- two bytes give their number back
+distance_back : (distance : ℤ) → FitsSigned w16 distance
+    → cast_signed w16 (from_le_bytes w16 (to_le_bytes w16 (cast_unsigned w16 distance))) ≡ distance
 distance_back distance fits =
-    let bound : cast_unsigned w32 distance < 2 ^ 32 = omega (arith, ints) in
-    ap (cast_signed w32) (from_le_bytes-to_le_bytes_4 (cast_unsigned w32 distance) bound)
-    ∙ to_z-of_z w32 distance fits
+    let bound : cast_unsigned w16 distance < 2 ^ 16 = omega (arith, ints) in
+    ap (cast_signed w16) (from_le_bytes-to_le_bytes_2 (cast_unsigned w16 distance) bound)
+    ∙ to_z-of_z w16 distance fits
 
 -- what is spelled is read, whatever follows
 pub reads : (i : Instr) (rest : List ℕ) → Fits i → reading (spelling_of i ++ rest) ≡ Some i

@@ -1,5 +1,5 @@
 ghost use Rattle.std.specs.Prelude.{◌≡◌, ◌≤◌, ℤ, FitsSigned, IfSome, Some};
-ghost use Rattle.std.specs.Int.{w8, w32, w64};
+ghost use Rattle.std.specs.Int.{w8, w16, w64};
 ghost use Rattle.asm_target.specs.Aiming.{Aims};
 ghost use Rattle.asm_target_linked.specs.Forms as spec;
 ghost use Rattle.asm_target_linked.specs.Instr.{linked, Fits, goal_of};
@@ -24,7 +24,7 @@ pub fn forms(instr: &Instr, form: u8) -> Few<Instr>
                 });
                 code.push(Instr::Far {
                     call: false,
-                    distance: i32::from(distance),
+                    distance: i16::from(distance),
                 });
             }
         }
@@ -65,10 +65,10 @@ fn near(held: bool, distance: i64) -> Option<Instr>
 }
 
 fn far(call: bool, distance: i64) -> Option<Instr>
-    ensures found { IfSome result (λ i. (i ≡ Instr.Far call distance) × FitsSigned w32 distance) }
-    ensures only { FitsSigned w32 distance → result ≡ Some (Instr.Far call distance) }
+    ensures found { IfSome result (λ i. (i ≡ Instr.Far call distance) × FitsSigned w16 distance) }
+    ensures only { FitsSigned w16 distance → result ≡ Some (Instr.Far call distance) }
 {
-    match i32::try_from(distance) {
+    match i16::try_from(distance) {
         Ok(distance) => Some(Instr::Far { call, distance }),
         Err(_) => None,
     }

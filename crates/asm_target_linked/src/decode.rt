@@ -33,13 +33,13 @@ pub fn decode(bytes: &[u8]) -> Option<Instr>
             op: FrameOp::Above,
             bytes: u32::from_le_bytes([*a, *b, *c, *d]),
         }),
-        [48, _, _, _, a, b, c, d, ..] => Some(Instr::Far {
+        [48, _, _, _, _, _, a, b, ..] => Some(Instr::Far {
             call: false,
-            distance: i32::from_le_bytes([*a, *b, *c, *d]),
+            distance: i16::from_le_bytes([*a, *b]),
         }),
-        [49, _, _, _, a, b, c, d, ..] => Some(Instr::Far {
+        [49, _, _, _, _, _, a, b, ..] => Some(Instr::Far {
             call: true,
-            distance: i32::from_le_bytes([*a, *b, *c, *d]),
+            distance: i16::from_le_bytes([*a, *b]),
         }),
         [code, ..] => Some(Instr::Plain(Op::coded(*code))),
         [] => None,

@@ -41,7 +41,7 @@ pub enum Instr {
     /// A branch where the stack pointer is below register 7, or where it isn't.
     Near { held: bool, distance: i8 },
     /// A jump, or a call that links through register 5.
-    Far { call: bool, distance: i32 },
+    Far { call: bool, distance: i16 },
 }
 
 impl Default for Instr {

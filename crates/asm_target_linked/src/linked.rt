@@ -72,7 +72,7 @@ impl Processor for Linked {
                 short(if held { 16 } else { 17 }, distance.cast_unsigned())
             }
             Instr::Far { call, distance } => {
-                long(if call { 49 } else { 48 }, distance.cast_unsigned())
+                far(if call { 49 } else { 48 }, distance.cast_unsigned())
             }
         }
     }
@@ -133,7 +133,7 @@ fn short(code: u8, number: u8) -> Spelled
     bytes
 }
 
-// Eight bytes.
+// Eight bytes, of which the last four are the number.
 fn long(code: u8, number: u32) -> Spelled
     ensures { result.items ≡ spec.long code number }
 {
@@ -143,6 +143,19 @@ fn long(code: u8, number: u32) -> Spelled
     bytes.push(second);
     bytes.push(third);
     bytes.push(fourth);
+    bytes
+}
+
+// Eight bytes, of which the last two are the number.
+fn far(code: u8, number: u16) -> Spelled
+    ensures { result.items ≡ spec.far code number }
+{
+    let mut bytes = short(code, 0);
+    let [first, second] = number.to_le_bytes();
+    bytes.push(0);
+    bytes.push(0);
+    bytes.push(first);
+    bytes.push(second);
     bytes
 }
 

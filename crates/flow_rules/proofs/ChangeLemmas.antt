@@ -1,5 +1,5 @@
 -- By how much an instruction changes the depth, by the sequence that it stands in.
-use Rattle.std.proofs.Common.{◌≡◌, ℕ, zero, suc, ◌+◌, ◌-◌, ◌<◌, ◌≤◌, ◌&&◌, ◌==◌, Bool, true, false, not, inl, inr, ℤ, pos, refl, sym, ap, ◌∙◌, subst, arith, if◌then◌else◌, is_some}
+use Rattle.std.proofs.Common.{◌≡◌, ℕ, zero, suc, ◌+◌, ◌-◌, ◌<◌, ◌≤◌, ◌&&◌, ◌==◌, Bool, true, false, not, inl, inr, pos, refl, sym, ap, ◌∙◌, subst, arith, if◌then◌else◌, is_some}
 use Rattle.std.proofs.lemmas.Bool.{cases_order}
 use Rattle.std.proofs.lemmas.Bool.Decides.{nat_tests, Decides-eqb}
 use Rattle.std.specs.Prelude.{nat_le, nat_lt}
@@ -7,7 +7,7 @@ use Rattle.asm_target.specs.declared.sequence.Sequence.{Sequence}
 use Rattle.asm_target.specs.declared.sequence.Sequence.TheVariants.{Plain, Saving, Restoring, Growth}
 use Rattle.asm_target.specs.DepthChange.{added_within, depth_change, ends_sequence, is_at_depth, is_hit, longest}
 use Rattle.asm_target.specs.FlowFunction.{FlowFunction, depth_view, is_in_order, is_last, is_target, role_at, sequence_at, span_at, start_at, start_of}
-use Rattle.asm_target.specs.Sequences.{count_of, depth_added_by, is_of_frame, is_plain, span_of}
+use Rattle.asm_target.specs.Sequences.{count_of, depth_added_by, is_of_frame, span_of}
 use Rattle.asm_target.proofs.DepthLemmas.{by_sequence}
 use Rattle.asm_target.proofs.RoleLemmas.{AreApart, frame_not_plain, stands_in}
 use Rattle.flow_rules.specs.Lawful.{IsLawful}

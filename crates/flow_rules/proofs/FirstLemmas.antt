@@ -1,5 +1,5 @@
 -- The first number that meets a test.
-use Rattle.std.proofs.Common.{◌≡◌, ℕ, ◌<◌, ◌≤◌, ◌&&◌, ◌||◌, Bool, true, false, Option, Some, None, is_some, inl, inr, refl, sym, ap, ◌∙◌, arith}
+use Rattle.std.proofs.Common.{◌≡◌, ℕ, ◌<◌, ◌&&◌, ◌||◌, Bool, true, false, Option, Some, None, is_some, refl, sym, ◌∙◌}
 use Rattle.asm_target.specs.DepthChange.{any_below}
 use Rattle.asm_target.proofs.CleanLemmas.{none_below, some_below}
 use Rattle.flow_rules.specs.Passing.{IsFirst}

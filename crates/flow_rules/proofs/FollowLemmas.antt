@@ -1,9 +1,8 @@
 -- Which instruction follows another, and which rule is broken by that.
-use Rattle.std.proofs.Common.{◌≡◌, ℕ, ℤ, pos, suc, ◌<◌, ◌==◌, ◌&&◌, ◌||◌, Bool, true, false, not, Option, Some, None, is_some, IfSome, refl, sym, ◌∙◌, subst}
+use Rattle.std.proofs.Common.{◌≡◌, ℕ, ℤ, pos, suc, ◌<◌, ◌==◌, ◌&&◌, ◌||◌, Bool, true, false, not, Option, Some, None, is_some, IfSome, refl, sym, subst}
 use Rattle.std.proofs.lemmas.Bool.Decides.{Decides-eqb}
 use Rattle.std.specs.Ordering.{int_eq}
 use Rattle.machine_effect.specs.declared.flow.Flow.{Flow}
-use Rattle.asm_target.specs.DepthChange.{any_below}
 use Rattle.asm_target.specs.FlowFunction.{FlowFunction, is_goal, jump_goal, outgoing}
 use Rattle.asm_target.specs.FlowRules.{breaks, breaks_f1, can_pass, differs, is_start}
 use Rattle.asm_target.proofs.CleanLemmas.{none_below, some_below}

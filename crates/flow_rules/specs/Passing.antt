@@ -1,7 +1,5 @@
 -- What holds while a function's instructions are gone through.
 use Rattle.std.specs.Prelude.{◌≡◌, ℕ, ℤ, pos, ◌+◌, ◌-◌, ◌<◌, ◌≤◌, Bool, true, false, Option, Some, None, if◌then◌else◌}
-use Rattle.machine_effect.specs.declared.flow.SpMove.TheVariants.{By}
-use Rattle.machine_effect.specs.Shapes.{IsStackDistance}
 use Rattle.asm_target.specs.DepthChange.{is_hit}
 use Rattle.asm_target.specs.FlowFunction.{FlowFunction, is_in_order, is_last, is_target, outgoing, role_at, span_at, start_at}
 use Rattle.asm_target.specs.FlowRules.{HasDepths}

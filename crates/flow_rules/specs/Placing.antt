@@ -9,7 +9,7 @@ use Rattle.machine_effect.specs.Flow.{flow_of}
 use Rattle.asm_target.specs.declared.body.Placed.{Placed}
 use Rattle.asm_target.specs.declared.sequence.Sequence.{Sequence}
 use Rattle.asm_target.specs.DepthChange.{depth_or_zero}
-use Rattle.asm_target.specs.FlowFunction.{FlowFunction, Range}
+use Rattle.asm_target.specs.FlowFunction.{FlowFunction}
 use Rattle.asm_target.specs.FlowRules.{Breach}
 use Rattle.asm_target.specs.InstructionSet.{InstructionSet}
 use Rattle.flow_rules.specs.declared.flow_no.FlowNo.{FlowNo}

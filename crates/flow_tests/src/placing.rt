@@ -1,4 +1,4 @@
-ghost use Rattle.std.specs.Prelude.{◌≡◌, ◌<◌, length, IsTrue};
+ghost use Rattle.std.specs.Prelude.{◌≡◌, ◌<◌, ◌≤◌, ◌+◌, ◌^◌, length, IsTrue, IfSome};
 ghost use Rattle.flow_rules.specs.Placing.{ArePlaced};
 ghost use Rattle.flow_tests.specs.Neighbours.{StandsRight};
 
@@ -65,9 +65,21 @@ fn stands_right<I: Copy>(code: &[Placed<I>], number: usize) -> bool
     ensures { IsTrue result → StandsRight code.now number }
 {
     let one = code[number];
-    let len = u64::from(one.len);
-    if len == 0 || u64::MAX - one.at < len {
+    let Some(end) = end_of(one) else {
         return false;
+    };
+    if number + 1 == code.len() {
+        return true;
     }
-    number + 1 == code.len() || code[number + 1].at == one.at + len
+    let other = code[number + 1];
+    other.at == end
+}
+
+fn end_of<I: Copy>(one: Placed<I>) -> Option<u64>
+    ensures { IfSome result (λ end. (0 < one.len) × (end ≡ one.at + one.len) × (end ≤ 2 ^ 64)) }
+{
+    if one.len == 0 {
+        return None;
+    }
+    one.at.checked_add(u64::from(one.len))
 }

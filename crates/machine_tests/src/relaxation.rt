@@ -126,14 +126,41 @@ fn a_chain_of_jumps_grows_from_its_start(rt: HostRuntime) -> Result<(), Memory> 
     Ok(())
 }
 
-// The second jump doesn't go over 2,000 bytes in any form.
+// So many lines, jumps among them, the greatest distance that a long jump goes over, and the first jump that goes further with its
+// distance.
+const LOST: [(usize, &[(usize, usize)], u32, Option<(usize, u32)>); 7] = [
+    (2003, &[(0, 1), (2, 2002)], 2004, None),
+    (2004, &[(0, 1), (2, 2003)], 2004, Some((2, 2005))),
+    (2005, &[(2004, 0)], 2004, None),
+    (2005, &[(2004, 0)], 2003, Some((2004, 2004))),
+    // Of two the first line is named, wherever it goes.
+    (2005, &[(0, 2003), (2004, 1)], 100, Some((0, 2007))),
+    (
+        2005,
+        &[(1000, 1), (1001, 2004), (3, 2)],
+        900,
+        Some((1000, 1000)),
+    ),
+    // A jump that is short needs no more.
+    (130, &[(0, 128)], 1, None),
+];
+
+// The first jump that is out of reach, with its distance.
+fn lost(alloc: Global, jumps: &Jumps) -> Option<(usize, u32)> {
+    if !jumps.has_room() {
+        return None;
+    }
+    match least_sizes(alloc, jumps) {
+        Err(FormsNo::Lost(line, distance)) => Some((line, distance)),
+        _ => None,
+    }
+}
+
 #[test]
 fn a_jump_out_of_reach_is_named_with_its_distance(rt: HostRuntime) -> Result<(), Memory> {
-    let jumps = jumps(rt.alloc(), 2004, &[(0, 1), (2, 2003)], 2004)?;
-    assert!(rt; jumps.has_room());
-    match least_sizes(rt.alloc(), &jumps) {
-        Ok(_) => assert!(rt; false, "all reach"),
-        Err(no) => assert!(rt; no == FormsNo::Lost(2, 2005)),
+    for (count, pairs, reach, wanted) in LOST {
+        let jumps = jumps(rt.alloc(), count, pairs, reach)?;
+        assert_eq!(rt; lost(rt.alloc(), &jumps), wanted, "{count} {pairs:?}");
     }
     Ok(())
 }

@@ -12,3 +12,5 @@ mod macro_tests;
 mod parse_tests;
 #[cfg(test)]
 mod text_tests;
+#[cfg(test)]
+mod unit_tests;

@@ -1,20 +1,18 @@
-//! The parser, on sources as a user of Go's assembler writes them.
+//! What the parser refuses of sources as a user of Go's assembler writes them, and at which line.
 use asm_lex::lex;
 use asm_parse::{ParseNo, Unit, parse};
-use goasm_base::Operand;
 use std::alloc::Global;
 use std::test::Fail;
 
-// Some words of amd64 and arm64.
+// Some words of the three targets, in the order amd64, arm64, riscv64.
 fn is_word(name: &[u8]) -> bool {
-    name == b"AX".as_slice()
-        || name == b"BX".as_slice()
-        || name == b"CX".as_slice()
-        || name == b"R1".as_slice()
-        || name == b"R2".as_slice()
+    matches!(name, b"AX" | b"BX" | b"CX" | b"TLS" | b"X1")
+        || matches!(name, b"R1" | b"R2" | b"R30" | b"RSP" | b"ZR" | b"g" | b"EQ")
+        || matches!(name, b"X5" | b"A0" | b"T0")
 }
 
-fn parsed(alloc: Global, source: &[u8]) -> Result<Result<Unit, ParseNo>, Fail> {
+/// The unit of a source, or its refusal.
+pub fn parsed(alloc: Global, source: &[u8]) -> Result<Result<Unit, ParseNo>, Fail> {
     let tokens = lex(alloc, 3, source)?;
     if tokens.list.as_slice().len() > 4_000_000 {
         return Ok(Err(ParseNo::Memory));
@@ -88,7 +86,7 @@ fn forms_are_refused(rt: HostRuntime) -> Result<(), Fail> {
     Ok(())
 }
 
-const REFUSED: [(&str, (u32, u32)); 45] = [
+const REFUSED: [(&str, (u32, u32)); 46] = [
     ("TEXT f(SB), 4, $0-0\na: RET\na: RET\n", (2, 3)),
     ("TEXT f(SB), 4, $0-0\na: a: RET\n", (2, 2)),
     ("TEXT f(SB), 4, $0-0\na:\nb:\na:\nRET\n", (2, 4)),
@@ -104,8 +102,6 @@ const REFUSED: [(&str, (u32, u32)); 45] = [
     ),
     ("TEXT f(SB), 4, $0-0\nMOVQ DX, AX\n", (3, 2)),
     ("TEXT f(SB), 4, $0-0\nMOVQ AX, SP\n", (3, 2)),
-    ("TEXT f(SB), 4, $0-0\nRET\nJMP 9(PC); JMP b\n", (8, 3)),
-    ("TEXT f(SB), 4, $0-0\nX 9(PC), b\n", (3, 2)),
     ("TEXT f(SB), 4, $0-0\nMOVQ 8(FP), AX\n", (4, 2)),
     ("TEXT f(SB), 4, $0-0\nMOVQ (FP), AX\n", (4, 2)),
     ("TEXT f(SB), 4, $0-0\nMOVQ $8(FP), AX\n", (4, 2)),
@@ -113,7 +109,6 @@ const REFUSED: [(&str, (u32, u32)); 45] = [
     ("TEXT f(SB), 4, $0-0\nMOVQ -8(FP), $1/0\n", (4, 2)),
     ("TEXT f(SB), 0, $0\n", (5, 1)),
     ("TEXT f(SB), 1|2, $8\nRET\n", (5, 1)),
-    ("RET; TEXT f(SB), 0, $0\n", (9, 1)),
     ("TEXT f(SB), 4, $0\nRET\nTEXT g(SB), 0, $0\n", (5, 3)),
     ("TEXT f<>(SB), 512, $0\n", (5, 1)),
     ("DATA x+8(SB)/8, $1\nDATA x+8(SB)/8, $1\n", (6, 2)),
@@ -128,7 +123,6 @@ const REFUSED: [(&str, (u32, u32)); 45] = [
     ("TEXT f(SB), 4, $0-0\nMOVQ $5%(1-1), AX\n", (7, 2)),
     ("DATA x+0(SB)/8, $2/0\n", (7, 1)),
     ("GLOBL x(SB), 1/0, $8\n", (7, 1)),
-    ("TEXT f(SB), 4, $0-0\nBYTE $1/0\n", (7, 2)),
     ("TEXT f(SB), 4, $0-0\nJMP 1(PC)\n", (8, 2)),
     ("TEXT f(SB), 4, $0-0\nJMP -1(PC)\n", (8, 2)),
     (
@@ -137,6 +131,17 @@ const REFUSED: [(&str, (u32, u32)); 45] = [
     ),
     ("TEXT f(SB), 4, $0-0\nJMP 2(PC)\nLOCK\nRET\n", (8, 2)),
     ("TEXT f(SB), 4, $0-0\nLOCK\nJMP 0(PC)\n", (8, 3)),
+    ("TEXT f(SB), 4, $0-0\nPCDATA $0, 1(PC)\nRET\n", (8, 2)),
+    (
+        "TEXT f(SB), 4, $0-0\nRET\nFUNCDATA $0, g(SB)\nJMP -2(PC)\n",
+        (8, 4),
+    ),
+    ("TEXT f(SB), 4, $0-0\nLOCK\nRET\nJMP -1(PC)\n", (8, 4)),
+    ("TEXT f(SB), 4, $0-0\nJMP end·a\n", (3, 2)),
+    (
+        "TEXT f(SB), 4, $0-0\nMOVQ x, AX\nDATA x+0(SB)/8, $1\n",
+        (3, 2),
+    ),
     ("RET\n", (9, 1)),
     ("\nLOCK\nRET\n", (9, 2)),
     ("DATA x+0(SB)/8, $1\nMOVQ 8(FP), AX\n", (4, 2)),
@@ -148,63 +153,186 @@ const REFUSED: [(&str, (u32, u32)); 45] = [
     ("TEXT f(SB), 4, $0-0\nJMP 7(PC)\na: BYTE\n", (10, 3)),
 ];
 
-// Of two refusals in one statement that with the lower number counts, and of two statements the earlier one.
-const FIRST: [(&str, (u32, u32)); 30] = [
-    ("TEXT f(SB), 4, $0-0\na: RET\na: MOVQ AX,\n", (1, 3)),
-    ("TEXT f(SB), 4, $0-0\nMOVQ 8(FP), $1/0, (AX\n", (1, 2)),
-    ("MOVQ 8(DX), AX\n", (1, 1)),
-    ("BYTE $1,\n", (1, 1)),
-    ("TEXT f(SB), 1/0, $4\n", (1, 1)),
-    ("TEXT f(SB), 4, $0-0\na: RET\na: MOVQ 8(FP), AX\n", (2, 3)),
-    ("TEXT f(SB), 4, $0-0\na: RET\na: BYTE $1/0\n", (2, 3)),
+// The refusal of a function with these statements, of which the first stands in line 2; or zeros.
+fn refused_in_function(alloc: Global, body: &[u8]) -> Result<(u32, u32), Fail> {
+    let mut source = Vec::new(alloc);
+    source.extend_from_slice(b"TEXT f(SB), 4, $0-0\n")?;
+    source.extend_from_slice(body)?;
+    refused(alloc, source.as_slice())
+}
+
+// Two refusals in one statement: that with the lower number counts, but what names stand for comes last.
+const IN_ONE_STATEMENT: [(&str, (u32, u32)); 38] = [
+    ("b: b: X AX,\n", (1, 2)),
+    ("X b, (AX\n", (1, 2)),
+    ("X 8(FP), (AX\n", (1, 2)),
+    ("X 8(FP), $1/0, (AX\n", (1, 2)),
+    ("RET\nTEXT g(SB), 0, $4\n", (1, 3)),
+    ("DATA x+8(SB)/8, $1\nDATA x+8(SB)/8, $1,\n", (1, 3)),
+    ("X $1/0, (AX\n", (1, 2)),
+    ("X 9(PC), (AX\n", (1, 2)),
+    ("BYTE $1,\n", (1, 2)),
+    ("a: RET\na: X AX,\n", (1, 3)),
+    ("a: RET\na: X b\n", (2, 3)),
+    ("a: RET\na: X 8(FP)\n", (2, 3)),
     (
-        "TEXT f(SB), 4, $0-0\na: LOCK\nRET\na: LOCK\nMOVQ 8(FP), AX\n",
-        (2, 4),
+        "a: DATA x+8(SB)/8, $1\na: DATA x+8(SB)/8, $1\nRET\n",
+        (2, 3),
     ),
-    ("TEXT f(SB), 4, $0-0\nBYTE 8(FP)\n", (4, 2)),
-    ("BYTE 8(FP), $1/0\n", (4, 1)),
-    ("TEXT f(SB), 1/0, $8\n", (5, 1)),
-    ("TEXT f(SB), 2%0|1, $0\nMOVQ AX,\n", (5, 1)),
-    ("DATA x+8(SB)/8, $1\nDATA x+1/0(SB)/8, $1\n", (6, 2)),
-    ("BYTE $1/0\n", (7, 1)),
-    ("MOVQ $1/0, AX\n", (7, 1)),
-    ("LONG $1\n", (9, 1)),
-    ("RET\nMOVQ AX,\n", (9, 1)),
-    ("RET\nTEXT f(SB), 0, $0\n", (9, 1)),
+    ("a: RET\na: X $1/0\n", (2, 3)),
+    ("a: RET\na: JMP 9(PC)\n", (2, 3)),
+    ("a: RET\na: BYTE $1\n", (2, 3)),
+    ("a: RET\na: BYTE $1/0\n", (2, 3)),
+    ("X 9(PC), b\n", (3, 2)),
+    ("X b, 9(PC)\n", (3, 2)),
+    ("RET\nX b, c\n", (3, 3)),
+    ("X 8(FP), b\n", (4, 2)),
+    ("X b, 8(FP)\n", (4, 2)),
+    ("X 8(FP), $1/0\n", (4, 2)),
+    ("X 9(PC), $8(FP)\n", (4, 2)),
+    ("BYTE 8(FP)\n", (4, 2)),
+    ("TEXT g(SB), 1/0, $8\n", (5, 2)),
+    ("RET\nTEXT g(SB), 8%0, $0\n", (5, 3)),
+    ("DATA x+8(SB)/8, $1\nDATA x+8(SB)/8, $1/0\n", (6, 3)),
+    ("DATA x+8(SB)/8, $1\n\nDATA x+1/0(SB)/8, $1\n", (6, 4)),
+    ("X $1/0, b\n", (7, 2)),
+    ("X b, $1%0\n", (7, 2)),
+    ("X 9(PC), $1/0\n", (7, 2)),
+    ("BYTE $1/0\n", (7, 2)),
+    ("X 9(PC), -9(PC)\n", (8, 2)),
+    ("RET\nX AX, 2(PC), 9(PC)\n", (8, 3)),
+    ("BYTE b\n", (10, 2)),
+    ("WORD 9(PC)\n", (10, 2)),
+    ("RET\nLONG b, 9(PC)\n", (10, 3)),
+];
+
+// Two refusals in two statements: the earlier one counts, but what names stand for comes last.
+const IN_TWO_STATEMENTS: [(&str, (u32, u32)); 34] = [
+    ("X AX,\nX BX,\n", (1, 2)),
+    ("X AX,\nb: b: RET\n", (1, 2)),
+    ("RET\nX AX,\nBYTE $1\n", (1, 3)),
+    ("a: a: RET\nX AX,\n", (2, 2)),
+    ("a: a: RET\nX 8(FP)\n", (2, 2)),
+    ("a: LOCK\nRET\na: LOCK\nX 8(FP)\n", (2, 4)),
+    ("X b\nX c\n", (3, 2)),
+    ("X b\nX 9(PC)\n", (3, 2)),
+    ("RET\nX b\nRET\nX 9(PC)\n", (3, 3)),
+    ("X 8(FP)\nX AX,\n", (4, 2)),
+    ("X 8(FP)\na: a: RET\n", (4, 2)),
+    ("RET\nX 8(FP)\nX $1/0\n", (4, 3)),
+    ("TEXT g(SB), 0, $0\nX AX,\n", (5, 2)),
+    ("TEXT g(SB), 0, $0\nX 8(FP)\n", (5, 2)),
+    ("RET\nTEXT g(SB), 2%0|1, $0\nX AX,\n", (5, 3)),
+    ("DATA x+8(SB)/8, $1\nDATA x+8(SB)/8, $1\nX AX,\n", (6, 3)),
+    ("DATA x+8(SB)/8, $1\nDATA x+8(SB)/8, $1\nX 8(FP)\n", (6, 3)),
+    ("DATA x+8(SB)/8, $1\nDATA x+8(SB)/8, $1\nX $1/0\n", (6, 3)),
+    ("X $1/0\nX AX,\n", (7, 2)),
+    ("X $1/0\nX 8(FP)\n", (7, 2)),
+    ("RET\nX $1/0\nBYTE $1\n", (7, 3)),
+    ("X 9(PC)\nX -9(PC)\n", (8, 2)),
+    ("X 9(PC)\nX b\n", (8, 2)),
+    ("RET\nJMP 9(PC); JMP b\n", (8, 3)),
+    ("BYTE $1\nX AX,\n", (10, 2)),
+    ("BYTE $1\na: a: RET\n", (10, 2)),
+    ("RET\nWORD $1\nX $1/0\n", (10, 3)),
+    ("a: RET\nTEXT g(SB), 4, $0-0\nJMP a\nJMP 9(PC)\n", (3, 4)),
+    ("JMP 1(PC)\nTEXT g(SB), 4, $0-0\nJMP b\n", (8, 2)),
+    ("RET\nTEXT g(SB), 4, $0-0\nJMP -1(PC)\nJMP b\n", (8, 4)),
     (
-        "DATA x+0(SB)/8, $1\nGLOBL x(SB), $8\nLOCK; BYTE $1\n",
-        (9, 3),
-    ),
-    ("TEXT f(SB), 4, $0-0\nBYTE $1\nMOVQ AX,\n", (10, 2)),
-    ("TEXT f(SB), 4, $0-0\nBYTE $1\na: a: RET\n", (10, 2)),
-    (
-        "TEXT f(SB), 4, $0-0\nMOVQ $1/0, AX\nMOVQ 8(FP), AX\n",
-        (7, 2),
-    ),
-    // What names stand for comes last, wherever it stands.
-    ("TEXT f(SB), 4, $0-0\nJMP b\nTEXT g(SB), 0, $0\n", (5, 3)),
-    ("TEXT f(SB), 4, $0-0\nJMP b\n\nMOVQ AX,\n", (1, 4)),
-    ("TEXT f(SB), 4, $0-0\nJMP 9(PC)\na: RET\na: RET\n", (2, 4)),
-    (
-        "TEXT f(SB), 4, $0-0\nJMP 9(PC)\nJMP b\nMOVQ 8(FP), AX\n",
-        (4, 4),
-    ),
-    ("TEXT f(SB), 4, $0-0\nJMP b\nBYTE b\n", (10, 3)),
-    ("TEXT f(SB), 4, $0-0\nJMP b\nRET\nJMP 9(PC)\n", (3, 2)),
-    (
-        "TEXT f(SB), 4, $0-0\nRET\nTEXT g(SB), 4, $0-0\nJMP 9(PC)\nTEXT h(SB), 4, $0-0\nJMP b\n",
-        (8, 4),
-    ),
-    (
-        "TEXT f(SB), 4, $0-0\nb: RET\nTEXT g(SB), 4, $0-0\nRET\nJMP b\nJMP -9(PC)\n",
+        "b: RET\nTEXT g(SB), 4, $0-0\nRET\nJMP b\nJMP -9(PC)\n",
         (3, 5),
     ),
+    ("JMP b\nRET\nJMP 9(PC)\n", (3, 2)),
+    ("a: RET\na: RET\na: BYTE $1\n", (2, 3)),
+    ("LONG $1\nLONG $1/0\n", (10, 2)),
+];
+
+// What names stand for comes last, wherever the other refusal stands.
+const NAMES_LAST: [(&str, (u32, u32)); 22] = [
+    ("X b\nX AX,\n", (1, 3)),
+    ("X b\n\na: a: RET\n", (2, 4)),
+    ("X b\nX 8(FP)\n", (4, 3)),
+    ("X b\nTEXT g(SB), 0, $0\n", (5, 3)),
+    ("X b\nDATA x+8(SB)/8, $1\nDATA x+8(SB)/8, $1\n", (6, 4)),
+    ("X b\nRET\nX $1/0\n", (7, 4)),
+    ("X b\nBYTE $1\n", (10, 3)),
+    ("X 9(PC)\nX AX,\n", (1, 3)),
+    ("X 9(PC)\na: RET\na: RET\n", (2, 4)),
+    ("X 9(PC)\nX b\nX 8(FP)\n", (4, 4)),
+    ("X 9(PC)\nTEXT g(SB), 0, $0\n", (5, 3)),
+    ("X 9(PC)\nDATA x+8(SB)/8, $1\nDATA x+8(SB)/8, $1\n", (6, 4)),
+    ("X 9(PC)\nX $1/0\n", (7, 3)),
+    ("X 9(PC)\nRET\nBYTE $1\n", (10, 4)),
+    ("X AX,\nX b\n", (1, 2)),
+    ("a: a: RET\nX 9(PC)\n", (2, 2)),
+    ("X 8(FP)\nX b\n", (4, 2)),
+    ("TEXT g(SB), 0, $0\nX 9(PC)\n", (5, 2)),
+    ("DATA x+8(SB)/8, $1\nDATA x+8(SB)/8, $1\nX b\n", (6, 3)),
+    ("X $1/0\nX 9(PC)\n", (7, 2)),
+    ("BYTE $1\nX b\n", (10, 2)),
+    ("JMP b\nBYTE b\n", (10, 3)),
+];
+
+// The same where code stands outside of a function.
+const OUTSIDE: [(&str, (u32, u32)); 22] = [
+    ("X AX,\n", (1, 1)),
+    ("X 8(DX), AX\n", (1, 1)),
+    ("BYTE $1,\n", (1, 1)),
+    ("a: RET\n", (1, 1)),
+    ("X 8(FP)\n", (4, 1)),
+    ("BYTE 8(FP), $1/0\n", (4, 1)),
+    ("X $1/0\n", (7, 1)),
+    ("BYTE $1/0\n", (7, 1)),
+    ("X b\n", (9, 1)),
+    ("X 9(PC)\n", (9, 1)),
+    ("\nX b, 9(PC)\n", (9, 2)),
+    ("LONG $1\n", (9, 1)),
+    ("RET\nX AX,\n", (9, 1)),
+    ("RET\nX 8(FP)\n", (9, 1)),
+    ("RET\nX $1/0\n", (9, 1)),
+    ("RET; TEXT f(SB), 0, $0\n", (9, 1)),
+    ("\nLOCK\nBYTE $1\n", (9, 2)),
+    ("GLOBL x(SB), $8\nLOCK; BYTE $1\n", (9, 2)),
+    ("RET\nTEXT f(SB), 4, $0-0\nX b\n", (9, 1)),
+    ("DATA x+8(SB)/8, $1\nRET\nDATA x+8(SB)/8, $1\n", (9, 2)),
+    ("DATA x+8(SB)/8, $1\nDATA x+8(SB)/8, $1\nRET\n", (6, 2)),
+    ("TEXT f(SB), 1/0, $4\n", (1, 1)),
 ];
 
 #[test]
 fn the_first_refusal_counts(rt: HostRuntime) -> Result<(), Fail> {
-    for (source, expected) in FIRST {
-        assert_eq!(rt; refused(rt.alloc(), source.as_bytes())?, expected);
+    for (body, expected) in IN_ONE_STATEMENT {
+        assert_eq!(rt;
+            refused_in_function(rt.alloc(), body.as_bytes())?,
+            expected,
+            "{body}"
+        );
+    }
+    for (body, expected) in IN_TWO_STATEMENTS {
+        assert_eq!(rt;
+            refused_in_function(rt.alloc(), body.as_bytes())?,
+            expected,
+            "{body}"
+        );
+    }
+    Ok(())
+}
+
+#[test]
+fn names_come_last(rt: HostRuntime) -> Result<(), Fail> {
+    for (body, expected) in NAMES_LAST {
+        assert_eq!(rt;
+            refused_in_function(rt.alloc(), body.as_bytes())?,
+            expected,
+            "{body}"
+        );
+    }
+    for (source, expected) in OUTSIDE {
+        assert_eq!(rt;
+            refused(rt.alloc(), source.as_bytes())?,
+            expected,
+            "{source}"
+        );
     }
     Ok(())
 }
@@ -213,170 +341,6 @@ fn the_first_refusal_counts(rt: HostRuntime) -> Result<(), Fail> {
 fn refusals_have_their_lines(rt: HostRuntime) -> Result<(), Fail> {
     for (source, expected) in REFUSED {
         assert_eq!(rt; refused(rt.alloc(), source.as_bytes())?, expected);
-    }
-    Ok(())
-}
-
-// An operand as numbers: the place of its form in `Operand`, its first number, its second, and a name of it.
-fn described(operand: &Operand) -> (u32, i64, i64, &[u8]) {
-    match operand {
-        Operand::Imm(value) => (0, value.cast_signed(), 0, b""),
-        Operand::Word(name) => (1, 0, 0, name.as_slice()),
-        Operand::Mem { off, base, index } => match index {
-            None => (2, *off, 0, base.as_slice()),
-            Some((name, scale)) => (2, *off, i64::from(*scale), name.as_slice()),
-        },
-        Operand::Sym { sym, off, address } => (
-            3 + 10 * u32::from(*address),
-            *off,
-            i64::from(*sym),
-            b"",
-        ),
-        Operand::Arg { name, off, address } => (
-            4 + 10 * u32::from(*address),
-            *off,
-            0,
-            name.as_slice(),
-        ),
-        Operand::Auto { off, address } => (5 + 10 * u32::from(*address), *off, 0, b""),
-        Operand::Label(statement) => (6, i64::from(*statement), 0, b""),
-        Operand::Pair(_, second) => (7, 0, 0, second.as_slice()),
-        Operand::Shifted { reg, kind, amount } => {
-            (8, i64::from(*kind), i64::from(*amount), reg.as_slice())
-        }
-    }
-}
-
-const OPERANDS: [(&str, (u32, i64, i64, &str)); 40] = [
-    ("$7", (0, 7, 0, "")),
-    ("$1+2*3", (0, 7, 0, "")),
-    ("$8-2-1", (0, 5, 0, "")),
-    ("$(1+2)*3", (0, 9, 0, "")),
-    ("$1|2<<2", (0, 9, 0, "")),
-    ("$-1", (0, -1, 0, "")),
-    ("$-~0", (0, 1, 0, "")),
-    ("$0-1>>63", (0, 0, 0, "")),
-    ("$1<<64", (0, 0, 0, "")),
-    ("AX", (1, 0, 0, "AX")),
-    ("(AX)", (2, 0, 0, "AX")),
-    ("-8(BX)", (2, -8, 0, "BX")),
-    ("16(SP)", (2, 16, 0, "SP")),
-    ("8(AX)(CX*4)", (2, 8, 4, "CX")),
-    ("(AX)(CX*0x8)", (2, 0, 8, "CX")),
-    ("g(SB)", (3, 0, 1, "")),
-    ("f+8(SB)", (3, 8, 0, "")),
-    ("f<>+8(SB)", (3, 8, 1, "")),
-    ("$g-4(SB)", (13, -4, 1, "")),
-    ("x+8(FP)", (4, 8, 0, "x")),
-    ("x(FP)", (4, 0, 0, "x")),
-    ("$x+0(FP)", (14, 0, 0, "x")),
-    ("a·b+0(FP)", (4, 0, 0, "a.b")),
-    ("tmp-8(SP)", (5, -8, 0, "")),
-    ("$tmp-8(SP)", (15, -8, 0, "")),
-    ("x-8/2(SP)", (5, 0x7FFF_FFFF_FFFF_FFFC, 0, "")),
-    ("a", (6, 0, 0, "")),
-    ("end", (6, 2, 0, "")),
-    ("0(PC)", (6, 0, 0, "")),
-    ("1(PC)", (6, 1, 0, "")),
-    ("2-1(PC)", (6, 1, 0, "")),
-    ("(R1, R2)", (7, 0, 0, "R2")),
-    ("R1<<3", (8, 0, 3, "R1")),
-    ("R1>>63", (8, 1, 63, "R1")),
-    ("R1->2+3", (8, 2, 5, "R1")),
-    ("BX", (1, 0, 0, "BX")),
-    ("$f<>+8(SB)", (13, 8, 1, "")),
-    ("4*(1+1)(AX)", (2, 8, 0, "AX")),
-    ("(SP)(AX*1)", (2, 0, 1, "AX")),
-    ("$0x7fff", (0, 0x7FFF, 0, "")),
-];
-
-#[test]
-fn operands_have_their_forms(rt: HostRuntime) -> Result<(), Fail> {
-    for (operand, expected) in OPERANDS {
-        let mut source = Vec::new(rt.alloc());
-        source.extend_from_slice(b"TEXT f(SB), 4, $0-0\na: X ")?;
-        source.extend_from_slice(operand.as_bytes())?;
-        source.extend_from_slice(b"\nBX: Y\nend: LOCK\nZ\n")?;
-        let unit = parsed(rt.alloc(), source.as_slice())??;
-        match unit.functions.as_slice() {
-            [function] => match function.stmts.as_slice() {
-                [first, second, third] => {
-                    assert_eq!(rt; (first.lock, second.lock, third.lock), (false, false, true));
-                    match first.operands.as_slice() {
-                        [operand] => assert!(rt; is_described(operand, expected)),
-                        _ => assert!(rt; false),
-                    }
-                }
-                _ => assert!(rt; false),
-            },
-            _ => assert!(rt; false),
-        }
-    }
-    Ok(())
-}
-
-// Whether an operand is described so.
-fn is_described(operand: &Operand, expected: (u32, i64, i64, &str)) -> bool {
-    let (form, first, second, name) = described(operand);
-    (form, first, second) == (expected.0, expected.1, expected.2) && name == expected.3.as_bytes()
-}
-
-#[test]
-fn a_unit_has_its_symbols_and_data(rt: HostRuntime) -> Result<(), Fail> {
-    let unit = parsed(
-        rt.alloc(),
-        "TEXT ·f(SB), 4|512, $0-24\nMOVD.W main·f(SB), t<>(SB)\nDATA t<>+0(SB)/4, $0x123456789\nDATA t<>+4(SB)/2, $\"\\x41\\n\"\nDATA t<>+8(SB)/8, $·f+4(SB)\nGLOBL t<>(SB), 8|16, $2*8\nGLOBL u(SB), $4\nTEXT u∕v(SB), 0, $16-0\n".as_bytes(),
-    )??;
-    let names = unit.symbols.as_slice();
-    assert_eq!(rt; names.len(), 4);
-    assert_eq!(rt;
-        (names[0].name.as_slice(), names[0].fixed),
-        (b"main.f".as_slice(), false)
-    );
-    assert_eq!(rt;
-        (names[1].name.as_slice(), names[1].fixed),
-        (b"t".as_slice(), true)
-    );
-    assert_eq!(rt;
-        (names[2].name.as_slice(), names[2].fixed),
-        (b"u".as_slice(), false)
-    );
-    assert_eq!(rt;
-        (names[3].name.as_slice(), names[3].fixed),
-        (b"u/v".as_slice(), false)
-    );
-    match unit.values.as_slice() {
-        [first, second, third] => {
-            assert_eq!(rt; (first.sym, first.off, first.pos.line), (1, 0, 3));
-            assert_eq!(rt; first.bytes.as_slice(), [0x89, 0x67, 0x45, 0x23].as_slice());
-            assert_eq!(rt; second.bytes.as_slice(), b"A\n".as_slice());
-            assert_eq!(rt; (third.off, third.address), (8, Some((0, 4))));
-        }
-        _ => assert!(rt; false),
-    }
-    match unit.globals.as_slice() {
-        [first, second] => {
-            assert_eq!(rt; (first.sym, first.flags, first.size), (1, 24, 16));
-            assert_eq!(rt; (second.sym, second.flags, second.size), (2, 0, 4));
-        }
-        _ => assert!(rt; false),
-    }
-    match unit.functions.as_slice() {
-        [first, second] => {
-            assert_eq!(rt;
-                (first.sym, first.flags, first.locals, first.args),
-                (0, 516, 0, Some(24))
-            );
-            assert_eq!(rt;
-                (second.sym, second.locals, second.args, second.pos.line),
-                (3, 16, Some(0), 8)
-            );
-            match first.stmts.as_slice() {
-                [only] => assert_eq!(rt; only.suffix, Some(b'W')),
-                _ => assert!(rt; false),
-            }
-        }
-        _ => assert!(rt; false),
     }
     Ok(())
 }

@@ -1,6 +1,5 @@
-use Rattle.std.proofs.Common.{◌≡◌, ℕ, ◌≤◌, false, add-one, rules, arith, below_more, subst, refl}
+use Rattle.std.proofs.Common.{◌≡◌, ℕ, false, add-one, rules, arith, below_more, subst, refl}
 use Rattle.asm_target.specs.FlowRules.{breaks}
-use Rattle.flow_rules.specs.Passing.{LeadsTo}
 use Rattle.flow_rules.proofs.RoleLemmas.{leads_first, leads_on}
 use Rattle.flow_rules.proofs.check.check.Goals as goal
 

@@ -1,4 +1,4 @@
-use Rattle.std.proofs.Common.{ℕ, ℤ, pos, suc, ◌&&◌, ◌==◌, not, Bool}
+use Rattle.std.proofs.Common.{pos, suc, ◌&&◌, ◌==◌, not}
 use Rattle.std.specs.Ordering.{int_eq}
 use Rattle.asm_target.specs.FlowFunction.{is_goal, jump_goal}
 use Rattle.asm_target.specs.FlowRules.{can_pass}

@@ -1,5 +1,4 @@
-use Rattle.std.proofs.Common.{◌≡◌, sym, ◌∙◌, ap, true, false, is_some, subst}
-use Rattle.machine_effect.specs.declared.flow.Flow.{Flow}
+use Rattle.std.proofs.Common.{◌≡◌, sym, ◌∙◌, ap, true, false, is_some}
 use Rattle.asm_target.proofs.DepthLemmas.{by_move, kept}
 use Rattle.asm_target.specs.DepthChange.{moved_by}
 use Rattle.asm_target.specs.FlowFunction.{depth_view}

@@ -1,4 +1,4 @@
-use Rattle.std.proofs.Common.{◌≡◌, ℕ, ◌≤◌, subst, arith}
+use Rattle.std.proofs.Common.{◌≡◌, ℕ, subst, arith}
 use Rattle.flow_rules.proofs.HitLemmas.{Spared, unhit}
 use Rattle.flow_rules.proofs.hits.first_hit.Goals as goal
 

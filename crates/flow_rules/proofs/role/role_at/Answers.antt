@@ -1,7 +1,7 @@
 use Rattle.std.proofs.Common.{◌≡◌, ◌+◌, ◌≤◌, ap, ◌∙◌, arith}
 use Rattle.asm_target.specs.FlowFunction.{span_at}
 use Rattle.asm_target.specs.Sequences.{span_of}
-use Rattle.flow_rules.proofs.RoleLemmas.{begins_anew, span_inside}
+use Rattle.flow_rules.proofs.RoleLemmas.{span_inside}
 use Rattle.flow_rules.proofs.role.role_at.Goals as goal
 
 pub overflow_add-result : goal.overflow_add-result
