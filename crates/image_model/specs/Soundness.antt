@@ -92,11 +92,12 @@ module _ (img : Image) where
     pub sp : img.shape.sp < 33
     pub link : (link : ℕ) → img.shape.link ≡ Some link → (link < 33) × ¬ (link ≡ img.shape.sp)
 
-  -- All lines are sound, lie in the text, and are as many as stand there; each entry is one of a function, and what grows the stack
-  -- lies outside
+  -- All lines are sound, lie in the text and belong to a function with an entry; each entry is a function's first line; and what
+  -- grows the stack lies outside
   pub record IsSound : Type 0 where
     pub registers : HasRegisters
     pub lines : (at : ℕ) (line : Line) → img.line_at at ≡ Some line → IsSoundLine at line
     pub inside : (at : ℕ) (line : Line) → img.line_at at ≡ Some line → is_within img.text at ≡ true
+    pub known : (at : ℕ) (line : Line) → img.line_at at ≡ Some line → img.is_entry line.entry ≡ true
     pub entries : (at : ℕ) → img.is_entry at ≡ true → (line : Line) × (img.line_at at ≡ Some line) × IsFirstLine at line
     pub growth : (at : ℕ) → img.is_growth_routine at ≡ true → IsOutside img at
