@@ -8,3 +8,4 @@ pub mod FindLemmas
 pub mod TextLemmas
 pub mod ActsLemmas
 pub mod ListedLemmas
+pub mod SampleLemmas

@@ -115,6 +115,10 @@ module _ {Instr : Type 0} (set : InstructionSet Instr) (fits : Instr → Type 0)
           let one = here k inside in
           let long = placed.some k one.0 one.1 in
           rw one.1 (omega arith);
+      room = λ k inside.
+          let one = here k inside in
+          let room = placed.room k one.0 one.1 in
+          rw one.1 room;
       follows = λ k inside.
           let one = here k (omega arith) in
           let two = here (suc k) inside in

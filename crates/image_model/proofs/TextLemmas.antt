@@ -266,6 +266,12 @@ module _ (text : Text) (is : IsText text) where
         let long = row.long k there.inside in
         own_inside i address there.known (within_by (text.code i).rules.own.first (text.code i).rules.own.past address
         (omega (arith, there.at)) (omega (arith, there.at)));
+    low = λ address line found.
+        let there = line_found address line found in
+        let row = is.row there.function there.known in
+        let long = row.long there.position there.inside in
+        let room = row.room there.position there.inside in
+        omega (arith, there.at);
     known = λ address line found.
         let there = line_found address line found in
         subst (λ (l : Line). text.is_entry l.entry ≡ true) there.line_is (is.entry there.function there.known);

@@ -1,5 +1,5 @@
 -- An image out of functions.
-use Rattle.std.specs.Prelude.{◌≡◌, ℕ, zero, suc, ◌+◌, ◌-◌, ◌<◌, ◌≤◌, ◌==◌, ◌&&◌, Bool, true, false, Option, Some, None, is_some, if◌then◌else◌}
+use Rattle.std.specs.Prelude.{◌≡◌, ℕ, zero, suc, ◌+◌, ◌-◌, ◌^◌, ◌<◌, ◌≤◌, ◌==◌, ◌&&◌, Bool, true, false, Option, Some, None, is_some, if◌then◌else◌}
 use Rattle.std.specs.Option.{option_map, option_or}
 use Rattle.machine_effect.specs.declared.flow.Shape.{Shape}
 use Rattle.machine_effect.specs.declared.flow.SpMove.TheVariants.{Keep}
@@ -73,10 +73,12 @@ joined text = record {
   after_call = λ past. some_below (λ i. call_behind (text.code i) text.is_growth_routine past) text.count;
 }
 
--- each instruction has bytes and stands where the one before it ends, and the function's own bytes are theirs
+-- each instruction has bytes, the last of them below 2 ^ 64, and stands where the one before it ends; and the function's own bytes
+-- are theirs
 pub record IsInRow (code : Code) : Type 0 where
   pub some : 0 < code.rules.count
   pub long : (k : ℕ) → k < code.rules.count → code.rules.at k < (code.placed k).past
+  pub room : (k : ℕ) → k < code.rules.count → (code.placed k).past ≤ 2 ^ 64
   pub follows : (k : ℕ) → suc k < code.rules.count → code.rules.at (suc k) ≡ (code.placed k).past
   pub first : code.rules.own.first ≡ code.rules.at 0
   pub past : (k : ℕ) → suc k ≡ code.rules.count → code.rules.own.past ≡ (code.placed k).past

@@ -5,3 +5,4 @@ pub mod Actions
 pub mod Soundness
 pub mod Joined
 pub mod Listed
+pub mod Sample

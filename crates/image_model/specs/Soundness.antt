@@ -1,5 +1,5 @@
 -- What an image has to be for its calls to be known at each moment of a run.
-use Rattle.std.specs.Prelude.{◌≡◌, ℕ, suc, pos, ◌-◌, ◌+ℤ◌, ◌<◌, true, false, Some}
+use Rattle.std.specs.Prelude.{◌≡◌, ℕ, suc, pos, ◌-◌, ◌+ℤ◌, ◌^◌, ◌<◌, true, false, Some}
 use Rattle.machine_effect.specs.declared.flow.SpMove.TheVariants.{Keep}
 use Rattle.machine_effect.specs.declared.next.Next.TheVariants as next
 use Rattle.machine_effect.specs.Applies.{link_of}
@@ -98,6 +98,7 @@ module _ (img : Image) where
     pub registers : HasRegisters
     pub lines : (at : ℕ) (line : Line) → img.line_at at ≡ Some line → IsSoundLine at line
     pub inside : (at : ℕ) (line : Line) → img.line_at at ≡ Some line → is_within img.text at ≡ true
+    pub low : (at : ℕ) (line : Line) → img.line_at at ≡ Some line → at < 2 ^ 64
     pub known : (at : ℕ) (line : Line) → img.line_at at ≡ Some line → img.is_entry line.entry ≡ true
     pub entries : (at : ℕ) → img.is_entry at ≡ true → (line : Line) × (img.line_at at ≡ Some line) × IsFirstLine at line
     pub growth : (at : ℕ) → img.is_growth_routine at ≡ true → IsOutside img at

@@ -1,10 +1,12 @@
 // Laws about the definitions in specs/, each the contract of a function that does nothing.
-ghost use Rattle.std.specs.Prelude.{◌≡◌, ◌<◌, ℕ, Some, true};
+ghost use Rattle.std.specs.Prelude.{◌≡◌, ◌<◌, ℕ, Some, None, true};
+ghost use Rattle.std.specs.Option.{option_map};
 ghost use Rattle.asm_target.specs.FlowRules.{IsFlowSound};
 ghost use Rattle.flow_rules.specs.declared.outside.Outside.{Outside};
 ghost use Rattle.image_model.specs.Image.{Line, is_served};
 ghost use Rattle.image_model.specs.Joined.{AreFlowSound, IsCallOf, IsLineOf, IsMachine, IsSoundFunction, IsText, Text, joined, line_of};
 ghost use Rattle.image_model.specs.Listed.{AreFunctions, Listed, text_of};
+ghost use Rattle.image_model.specs.Sample.{calling};
 ghost use Rattle.image_model.specs.Soundness.{IsSound};
 
 use asm_target::Target;
@@ -45,4 +47,15 @@ pub fn listed_is_text<T: Target>()
     ensures machine { (out : Outside) (count : ℕ) (functions : ℕ → Listed T.Instr)
         → AreFunctions T.instructions T.fits out count functions
         → IsMachine (text_of T.instructions T.SHAPE T.GROWTH T.begins out count functions) }
+{}
+
+// What is asked of functions holds of two, of which one calls the other.
+fn can_hold()
+    ensures text { IsText calling }
+    ensures machine { IsMachine calling }
+    ensures flow { AreFlowSound calling }
+    ensures line { option_map (λ line. line.entry) ((joined calling).line_at 0x1005) ≡ Some 0x1000 }
+    ensures padding { (joined calling).line_at 0x1006 ≡ None }
+    ensures call { (joined calling).after_call 0x1005 ≡ Some 0x1000 }
+    ensures none { (joined calling).after_call 0x1011 ≡ None }
 {}
