@@ -1,2 +1,3 @@
 pub mod EffectLemmas
 pub mod InsideLemmas
+pub mod LastLemmas
