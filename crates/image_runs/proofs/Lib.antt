@@ -1,3 +1,4 @@
 pub mod EffectLemmas
 pub mod InsideLemmas
 pub mod LastLemmas
+pub mod GoingLemmas
