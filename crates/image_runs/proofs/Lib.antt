@@ -2,3 +2,4 @@ pub mod EffectLemmas
 pub mod InsideLemmas
 pub mod LastLemmas
 pub mod GoingLemmas
+pub mod CallLemmas
