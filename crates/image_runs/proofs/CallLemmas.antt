@@ -34,7 +34,7 @@ use Rattle.image_runs.proofs.GoingLemmas.{ends_alone, growth_last, jump_cases, j
 use Rattle.image_runs.proofs.InsideLemmas.{shallow_zero}
 use Rattle.image_runs.proofs.LastLemmas.{deep_below, deep_unlinked, inner_anew, place_linked, place_unlinked, shallow_linked}
 
-calls_is : (state : State) (loaded : ℕ) (goes : Next) (goal : ℕ) → calls_to state loaded goes ≡ Some goal → is_call goes ≡ true
+pub calls_is : (state : State) (loaded : ℕ) (goes : Next) (goal : ℕ) → calls_to state loaded goes ≡ Some goal → is_call goes ≡ true
 calls_is state loaded (next.Call there link) goal is = refl
 calls_is state loaded (next.CallTo there link) goal is = refl
 calls_is state loaded next.Fall goal is = absurd (cc)
@@ -45,7 +45,7 @@ calls_is state loaded next.Return goal is = absurd (cc)
 calls_is state loaded next.System goal is = absurd (cc)
 calls_is state loaded next.Stop goal is = absurd (cc)
 
-growth_goal : (is_routine : ℕ → Bool) (state : State) (loaded : ℕ) (goes : Next) (goal : ℕ) → calls_to state loaded goes ≡ Some goal
+pub growth_goal : (is_routine : ℕ → Bool) (state : State) (loaded : ℕ) (goes : Next) (goal : ℕ) → calls_to state loaded goes ≡ Some goal
     → is_growth_call is_routine goes ≡ true → is_routine goal ≡ true
 growth_goal is_routine state loaded (next.Call there link) goal is growth =
     (let same : there ≡ goal = cc in subst (λ (g : ℕ). is_routine g ≡ true) same growth)
@@ -58,10 +58,10 @@ growth_goal is_routine state loaded next.Return goal is growth = absurd (cc)
 growth_goal is_routine state loaded next.System goal is growth = absurd (cc)
 growth_goal is_routine state loaded next.Stop goal is growth = absurd (cc)
 
-call_not_fall : (goes : Next) → is_call goes ≡ true → ¬ (goes ≡ next.Fall)
+pub call_not_fall : (goes : Next) → is_call goes ≡ true → ¬ (goes ≡ next.Fall)
 call_not_fall goes is falls = cc (is, ap is_call falls)
 
-call_passes : (goes : Next) → is_call goes ≡ true → can_pass goes ≡ true
+pub call_passes : (goes : Next) → is_call goes ≡ true → can_pass goes ≡ true
 call_passes (next.Call there link) is = refl
 call_passes (next.CallTo there link) is = refl
 call_passes next.Fall is = refl
@@ -93,7 +93,7 @@ served_call is_routine goes is = by (is_call goes) refl
     by true on = on
     by false off = absurd (cc (is, ap (λ (b : Bool). b && not (is_growth_call is_routine goes)) off))
 
-serves : (is_routine : ℕ → Bool) (goes : Next) → is_call goes ≡ true → is_growth_call is_routine goes ≡ false → is_served is_routine goes ≡ true
+pub serves : (is_routine : ℕ → Bool) (goes : Next) → is_call goes ≡ true → is_growth_call is_routine goes ≡ false → is_served is_routine goes ≡ true
 serves is_routine goes call other = rw (call, other) refl
 
 module _ (img : Image) where
@@ -150,13 +150,13 @@ module _ (img : Image) (sound : IsSound img) (m n : Moment) (state : IsState m.s
   line_sound : IsSoundLine img m.state.pc p
   line_sound = sound.lines m.state.pc p here
 
-  still_standing : Standing img n.state.mem frame further
+  pub still_standing : Standing img n.state.mem frame further
   still_standing =
       stands_on img m.state.mem n.state.mem frame further
       (slots_behind (λ slot. BytesStay m.state.mem n.state.mem slot 8) frame further stay) standing
 
   -- the return address of this frame is as before
-  own_word : in_link img p.depth ≡ false → word_at n.state.mem (slot_place img (sp_of img m.state) p.depth) ≡ Some frame.ret
+  pub own_word : in_link img p.depth ≡ false → word_at n.state.mem (slot_place img (sp_of img m.state) p.depth) ≡ Some frame.ret
   own_word deep =
       let place : ℕ = slot_place img (sp_of img m.state) p.depth in
       word_stays m.state.mem n.state.mem place
@@ -165,7 +165,7 @@ module _ (img : Image) (sound : IsSound img) (m n : Moment) (state : IsState m.s
       ∙ inner.holds.word deep
 
   -- a plain instruction, with a link register
-  plain_line : p.role ≡ Plain → has_link img ≡ true → IsPlainLine img p
+  pub plain_line : p.role ≡ Plain → has_link img ≡ true → IsPlainLine img p
   plain_line plain some = subst (λ (role : Sequence). SuitsRole img role p) plain line_sound.suits some
 
   -- the machine goes on in the caller's frame
@@ -220,7 +220,7 @@ module _ (img : Image) (sound : IsSound img) (m n : Moment) (state : IsState m.s
       let same : sp_of img m.state + p.depth ≡ sp_of img m.state = omega arith in
       place_unlinked img (sp_of img m.state) p.depth none ∙ same
 
-  returns : Returns img p frame further m n → IsKnown img n
+  pub returns : Returns img p frame further m n → IsKnown img n
   returns way =
       let level : p.depth ≡ 0 = line_sound.returns way.goes in
       let not_fall = return_not_fall (next_of p) way.goes in
@@ -261,7 +261,7 @@ module _ (img : Image) (sound : IsSound img) (m n : Moment) (state : IsState m.s
           ∙ ap (word_at n.state.mem) (sym place) ∙ word in
           cc)
 
-  leaves : Leaves img p frame further m n → KeepsJump img m n → IsKnown img n
+  pub leaves : Leaves img p frame further m n → KeepsJump img m n → IsKnown img n
   leaves way kept =
       let level : p.depth ≡ 0 =
       elim (jump_cases m.state way.loaded (next_of p) way.goal way.goes) as (λ _. p.depth ≡ 0) [

@@ -3,3 +3,4 @@ pub mod InsideLemmas
 pub mod LastLemmas
 pub mod GoingLemmas
 pub mod CallLemmas
+pub mod OutLemmas
