@@ -1,38 +1,29 @@
 -- Calls, returns, and what is done outside.
-use Rattle.std.proofs.Common.{◌≡◌, ◌⊎◌, ℕ, zero, suc, ℤ, pos, ◌+◌, ◌-◌, ◌*◌, ◌<◌, ◌≤◌, ◌^◌, ◌%◌, ◌==◌, ◌&&◌, ◌||◌, Bool, true, false, not, List, [], ◌∷◌, Option, Some, None, is_some, length, refl, sym, ap, ◌∙◌, subst, arith, inl, inr, if◌then◌else◌, set, get_or}
-use Rattle.std.proofs.lemmas.Bool.{cases_order}
-use Rattle.std.proofs.lemmas.Bool.Decides.{Decides-eqb}
+use Rattle.std.proofs.Common.{◌≡◌, ℕ, ◌+◌, ◌-◌, ◌<◌, ◌&&◌, Bool, true, false, not, List, ◌∷◌, Some, length, refl, sym, ap, ◌∙◌, subst, arith, inl, inr}
 use Rattle.std.proofs.lemmas.Int.{ints}
 use Rattle.std.proofs.lemmas.List.{length-set}
-use Rattle.std.specs.Prelude.{IfSome, ◌+ℤ◌, slice_set}
+use Rattle.std.specs.Prelude.{slice_set}
 use Rattle.machine_effect.specs.declared.frame.Frame.{Frame}
 use Rattle.machine_effect.specs.declared.next.Next.{Next}
 use Rattle.machine_effect.specs.declared.next.Next.TheVariants as next
 use Rattle.machine_effect.specs.declared.state.State.{State}
-use Rattle.machine_effect.specs.Applies.{Applies, IsState, link_of}
-use Rattle.machine_effect.specs.Memory.{Memory, bytes_of, put, word_at}
+use Rattle.machine_effect.specs.Applies.{IsState}
+use Rattle.machine_effect.specs.Memory.{Memory, word_at}
 use Rattle.machine_effect.specs.Stores.{BytesStay}
-use Rattle.machine_effect.specs.Values.{atom_of, reg_of}
 use Rattle.machine_effect.proofs.FlowLemmas.{set_here}
-use Rattle.machine_effect.proofs.StateLemmas.{number_at-put}
-use Rattle.machine_effect.proofs.StepLemmas.{links}
 use Rattle.asm_target.specs.declared.sequence.Sequence.{Sequence}
-use Rattle.asm_target.specs.declared.sequence.Sequence.TheVariants.{Plain, Saving, Restoring, Growth}
+use Rattle.asm_target.specs.declared.sequence.Sequence.TheVariants.{Plain}
 use Rattle.asm_target.specs.DepthChange.{is_call, is_return}
-use Rattle.asm_target.specs.FlowFunction.{call_goal, is_among, is_within, jump_goal}
-use Rattle.asm_target.specs.FlowRules.{can_pass, is_indirect_jump}
-use Rattle.asm_target.specs.Runs.{Leads}
+use Rattle.asm_target.specs.FlowRules.{can_pass}
 use Rattle.asm_target.specs.Sequences.{span_of}
-use Rattle.image_model.specs.Actions.{ActsAs, GrowsStack}
-use Rattle.image_model.specs.Image.{Image, IsOutside, Line, flow_in, has_link, is_growth_call, is_served, next_of}
-use Rattle.image_model.specs.Kept.{KeepsCall, KeepsJump, SlotsStay}
+use Rattle.image_model.specs.Image.{Image, Line, has_link, is_growth_call, is_served, next_of}
+use Rattle.image_model.specs.Kept.{KeepsJump, SlotsStay}
 use Rattle.image_model.specs.Soundness.{Follows, IsPlainLine, IsSound, IsSoundLine, SuitsRole, span_in}
-use Rattle.image_model.specs.Steps.{Asks, AsksOutside, Calls, HasRoom, Leaves, Moment, Pops, PopsReturn, Pushes, PushesReturn, Resumes, Returns, called, calls_to, jumps_to, link_in, pushed, register_or_zero, return_of, sp_of}
-use Rattle.image_runs.specs.Known.{Holds, IsCaller, IsInner, IsKnown, Standing, in_link, slot_by, slot_place}
+use Rattle.image_model.specs.Steps.{Leaves, Moment, PopsReturn, PushesReturn, Resumes, Returns, calls_to, link_in, pushed, return_of, sp_of}
+use Rattle.image_runs.specs.Known.{IsInner, IsKnown, Standing, in_link, slot_place}
 use Rattle.image_runs.proofs.EffectLemmas.{at_slot, link_kept, slot_first, slots_behind, sp_kept, stands_on, word_stays}
-use Rattle.image_runs.proofs.GoingLemmas.{ends_alone, growth_last, jump_cases, jumps_no_call, jumps_not_fall}
-use Rattle.image_runs.proofs.InsideLemmas.{shallow_zero}
-use Rattle.image_runs.proofs.LastLemmas.{deep_below, deep_unlinked, inner_anew, place_linked, place_unlinked, shallow_linked}
+use Rattle.image_runs.proofs.GoingLemmas.{ends_alone, growth_last, jump_cases}
+use Rattle.image_runs.proofs.LastLemmas.{deep_unlinked, inner_anew, place_unlinked, shallow_linked}
 
 pub calls_is : (state : State) (loaded : ℕ) (goes : Next) (goal : ℕ) → calls_to state loaded goes ≡ Some goal → is_call goes ≡ true
 calls_is state loaded (next.Call there link) goal is = refl
@@ -237,8 +228,10 @@ module _ (img : Image) (sound : IsSound img) (m n : Moment) (state : IsState m.s
           elim (ends_alone img m.state.pc p line_sound not_fall) as (λ _. p.role ≡ Plain) [
             | inl plain ↦ plain
             | inr call ↦
-                absurd (cc (growth_last img m.state.pc p line_sound call.0 call.1 call.2,
-                return_no_call img.is_growth_routine (next_of p) way.goes))
+                absurd (cc (
+                  growth_last img m.state.pc p line_sound call.0 call.1 call.2,
+                  return_no_call img.is_growth_routine (next_of p) way.goes,
+                ))
           ]
 
       value_is : (some : Bool) → has_link img ≡ some → p.depth ≡ 0 → sp_of img way.between ≡ sp_of img m.state

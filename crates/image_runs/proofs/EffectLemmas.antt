@@ -1,9 +1,9 @@
 -- What an instruction leaves alone, and how it moves the stack pointer.
-use Rattle.std.proofs.Common.{◌≡◌, ◌⊎◌, ℕ, zero, suc, ℤ, pos, negsuc, ◌+◌, ◌-◌, ◌<◌, ◌≤◌, ◌^◌, ◌%◌, ◌&&◌, Bool, true, false, List, [], ◌∷◌, Option, Some, None, is_some, refl, sym, ap, ◌∙◌, subst, arith, inl, inr, if◌then◌else◌}
+use Rattle.std.proofs.Common.{◌≡◌, ℕ, ℤ, pos, negsuc, ◌+◌, ◌<◌, ◌≤◌, ◌^◌, ◌&&◌, true, false, List, [], ◌∷◌, Option, Some, None, is_some, refl, ap, ◌∙◌, subst, arith}
 use Rattle.std.proofs.lemmas.Bool.Decides.{nat_tests}
 use Rattle.std.proofs.lemmas.Int.{ints}
 use Rattle.std.proofs.lemmas.List.Elements.{All-head, All-tail, All-nil, All-cons}
-use Rattle.std.specs.Prelude.{All, IfSome, nat_le, nat_lt, ◌+ℤ◌}
+use Rattle.std.specs.Prelude.{IfSome, nat_le, nat_lt, ◌+ℤ◌}
 use Rattle.machine_effect.specs.declared.effect.Effect.{Effect}
 use Rattle.machine_effect.specs.declared.flow.Shape.{Shape}
 use Rattle.machine_effect.specs.declared.flow.SpMove.TheVariants.{By, Keep}
@@ -15,13 +15,12 @@ use Rattle.machine_effect.specs.Memory.{Memory, word_at}
 use Rattle.machine_effect.specs.Numbers as numbers
 use Rattle.machine_effect.specs.Steps.{KeepsRegister}
 use Rattle.machine_effect.specs.Stores.{BytesStay}
-use Rattle.machine_effect.specs.Values.{reg_of}
 use Rattle.machine_effect.proofs.FlowLemmas.{flow_keeps, flow_keeps_link, flow_moves}
 use Rattle.machine_effect.proofs.StepLemmas.{leaves_missed, number_stays}
 use Rattle.image_model.specs.Image.{Image, has_link}
 use Rattle.image_model.specs.Kept.{AtSlots, MissesSlots, SlotsStay}
-use Rattle.image_model.specs.Steps.{IsInRange, link_in, or_stored, pushed, register_or_zero, sp_of, unless_passed}
-use Rattle.image_runs.specs.Known.{IsCaller, Standing, slot_place}
+use Rattle.image_model.specs.Steps.{IsInRange, link_in, pushed, register_or_zero, sp_of, unless_passed}
+use Rattle.image_runs.specs.Known.{Standing, slot_place}
 
 -- the link register stays where it isn't written
 keeps_link : (shape : Shape) (effect : Effect) → is_some shape.link ≡ true → (flow_of effect shape).writes_link ≡ false
@@ -119,8 +118,7 @@ module _ (img : Image) where
       let place : ℕ = slot_place img (inner.base + pushed img) standing.0.line.depth in
       let bytes : BytesStay before after place 8 =
       at_slot (λ slot. BytesStay before after slot 8) outer.slot place standing.0.slot
-      (slot_first (λ slot. BytesStay before after slot 8) outer more stay) in
-      (
+      (slot_first (λ slot. BytesStay before after slot 8) outer more stay) in (
         standing.0,
         word_stays before after place bytes ∙ standing.1,
         stands_on before after outer more (slots_behind (λ slot. BytesStay before after slot 8) outer more stay) standing.2,

@@ -1,5 +1,5 @@
 -- Instructions that go on in the same frame.
-use Rattle.std.proofs.Common.{◌≡◌, ◌⊎◌, ℕ, zero, suc, ℤ, pos, ◌+◌, ◌-◌, ◌<◌, ◌≤◌, ◌^◌, ◌==◌, ◌&&◌, ◌||◌, Bool, true, false, not, List, [], ◌∷◌, Option, Some, None, is_some, refl, sym, ap, ◌∙◌, subst, arith, inl, inr, if◌then◌else◌}
+use Rattle.std.proofs.Common.{◌≡◌, ◌⊎◌, ℕ, suc, pos, ◌+◌, ◌-◌, ◌<◌, ◌≤◌, ◌^◌, Bool, true, false, List, [], ◌∷◌, Option, Some, None, refl, sym, ap, ◌∙◌, subst, arith, inl, inr, if◌then◌else◌}
 use Rattle.std.proofs.lemmas.Bool.{cases_order}
 use Rattle.std.proofs.lemmas.Int.{ints}
 use Rattle.std.specs.Prelude.{IfSome, ◌+ℤ◌}
@@ -7,23 +7,23 @@ use Rattle.machine_effect.specs.declared.frame.Frame.{Frame}
 use Rattle.machine_effect.specs.declared.next.Next.{Next}
 use Rattle.machine_effect.specs.declared.next.Next.TheVariants as next
 use Rattle.machine_effect.specs.declared.state.State.{State}
-use Rattle.machine_effect.specs.Applies.{Applies, IsState}
+use Rattle.machine_effect.specs.Applies.{IsState}
 use Rattle.machine_effect.specs.Memory.{Memory, word_at}
 use Rattle.machine_effect.specs.Stores.{BytesStay}
 use Rattle.machine_effect.specs.Values.{holds}
 use Rattle.asm_target.specs.declared.sequence.Sequence.{Sequence}
 use Rattle.asm_target.specs.declared.sequence.Sequence.TheVariants.{Plain, Saving, Restoring, Growth}
-use Rattle.asm_target.specs.FlowFunction.{call_goal, is_among, is_within, jump_goal}
+use Rattle.asm_target.specs.FlowFunction.{is_within, jump_goal}
 use Rattle.asm_target.specs.FlowRules.{can_pass, is_indirect_jump}
 use Rattle.asm_target.specs.Runs.{PlacedEffect}
 use Rattle.asm_target.specs.Sequences.{span_of}
 use Rattle.image_model.specs.Actions.{ActsAs}
-use Rattle.image_model.specs.Image.{Image, Line, flow_in, has_link, is_growth_call, next_of}
+use Rattle.image_model.specs.Image.{Image, Line, is_growth_call, next_of}
 use Rattle.image_model.specs.Kept.{SlotsStay}
-use Rattle.image_model.specs.Soundness.{Follows, IsSound, IsSoundLine, Lands, SuitsRole, span_in}
-use Rattle.image_model.specs.Steps.{GoesOn, HasRoom, Jumps, Moment, entered, frame_after, jumps_to, passes, pushed, sp_of}
+use Rattle.image_model.specs.Soundness.{Follows, IsSound, IsSoundLine, SuitsRole, span_in}
+use Rattle.image_model.specs.Steps.{GoesOn, HasRoom, Jumps, Moment, entered, frame_after, jumps_to, passes, pushed}
 use Rattle.image_model.proofs.ActionLemmas.{growth_most}
-use Rattle.image_runs.specs.Known.{Holds, IsCaller, IsInner, IsKnown, Standing, in_link, slot_place}
+use Rattle.image_runs.specs.Known.{Holds, IsInner, IsKnown, Standing, slot_place}
 use Rattle.image_runs.proofs.EffectLemmas.{slot_first, slots_behind, stands_on}
 use Rattle.image_runs.proofs.InsideLemmas.{inner_inside}
 use Rattle.image_runs.proofs.LastLemmas.{inner_anew, last_holds, plain_holds}
@@ -91,8 +91,7 @@ module _ (img : Image) where
   standing_same memory inner other call base ret [] standing = (call ∙ standing.0, ap (is_within img.text) ret ∙ standing.1)
   standing_same memory inner other call base ret (outer ∷ more) standing =
       let c = standing.0 in
-      let above : ℕ = pushed img in
-      (
+      let above : ℕ = pushed img in (
         record {
           at = c.at;
           line = c.line;
@@ -179,7 +178,7 @@ module _ (img : Image) (sound : IsSound img) (m n : Moment) (state : IsState m.s
       stands_on img m.state.mem n.state.mem frame further
       (slots_behind (λ slot. BytesStay m.state.mem n.state.mem slot 8) frame further stay) standing
 
-  goes_on : GoesOn img p frame further m n → IsKnown img n
+  pub goes_on : GoesOn img p frame further m n → IsKnown img n
   goes_on way =
       let pass = passes_on m.state way.applies.loaded (next_of p) way.goes in
       let behind = line_sound.behind pass in
@@ -202,8 +201,10 @@ module _ (img : Image) (sound : IsSound img) (m n : Moment) (state : IsState m.s
                   inner_anew img q n.state after then_state (follows.anew last) (inner.entry ∙ sym follows.entry)
                   (last_holds img sound.registers.sp m.state.pc p line_sound m.state n.state state frame inner way.applies room own_stay
                   q.depth follows.depth last
-                  (λ count role. cc (growth_last img m.state.pc p line_sound count role last,
-                  passes_no_call img.is_growth_routine m.state way.applies.loaded (next_of p) way.goes)))
+                  (λ count role. cc (
+                    growth_last img m.state.pc p line_sound count role last,
+                    passes_no_call img.is_growth_routine m.state way.applies.loaded (next_of p) way.goes,
+                  )))
             ]);
         standing = standing_same img n.state.mem frame after refl refl refl further still_standing;
       }
@@ -220,7 +221,7 @@ module _ (img : Image) (sound : IsSound img) (m n : Moment) (state : IsState m.s
       by true = (refl, refl, refl, refl)
       by false = (refl, refl, refl, refl)
 
-  jumps : Jumps img p frame further m n → IsKnown img n
+  pub jumps : Jumps img p frame further m n → IsKnown img n
   jumps way =
       let loaded : ℕ = way.applies.loaded in
       let after : Frame = frame_after img p m.state n.state loaded frame in
@@ -252,8 +253,10 @@ module _ (img : Image) (sound : IsSound img) (m n : Moment) (state : IsState m.s
           elim (ends_alone img m.state.pc p line_sound not_fall) as (λ _. p.role ≡ Plain) [
             | inl plain ↦ plain
             | inr call ↦
-                absurd (cc (growth_last img m.state.pc p line_sound call.0 call.1 call.2,
-                jumps_no_call img.is_growth_routine m.state way.applies.loaded (next_of p) way.goal way.goes))
+                absurd (cc (
+                  growth_last img m.state.pc p line_sound call.0 call.1 call.2,
+                  jumps_no_call img.is_growth_routine m.state way.applies.loaded (next_of p) way.goal way.goes,
+                ))
           ]
 
       base_depth : img.is_entry way.goal ≡ true → p.depth ≡ 0
@@ -277,8 +280,7 @@ module _ (img : Image) (sound : IsSound img) (m n : Moment) (state : IsState m.s
           (let first = sound.entries way.goal entry in
           let none = (line_sound.still not_fall).1 in
           let zero = base_depth entry in
-          let depth = first.2.depth in
-          (
+          let depth = first.2.depth in (
             first.0,
             first.1,
             (
@@ -293,8 +295,7 @@ module _ (img : Image) (sound : IsSound img) (m n : Moment) (state : IsState m.s
             | inl direct ↦ direct
             | inr indirect ↦ absurd (cc (entry, way.entry indirect))
           ] in
-          let lands = line_sound.jumps way.goal direct way.inside entry in
-          (
+          let lands = line_sound.jumps way.goal direct way.inside entry in (
             lands.0,
             lands.1,
             (

@@ -1,16 +1,15 @@
 -- An instruction of a sequence that isn't the last one.
-use Rattle.std.proofs.Common.{◌≡◌, ◌⊎◌, ℕ, zero, suc, ℤ, pos, ◌+◌, ◌-◌, ◌<◌, ◌≤◌, ◌^◌, ◌==◌, ◌&&◌, ◌||◌, Bool, true, false, List, [], ◌∷◌, Option, Some, None, is_some, refl, sym, ap, ◌∙◌, subst, arith, inl, inr, if◌then◌else◌}
+use Rattle.std.proofs.Common.{◌≡◌, ℕ, suc, ◌<◌, ◌==◌, ◌&&◌, Bool, true, false, Option, Some, None, is_some, refl, sym, ap, ◌∙◌, subst, arith, inl, inr, if◌then◌else◌}
 use Rattle.std.proofs.lemmas.Bool.{cases_order}
-use Rattle.std.proofs.lemmas.Bool.Decides.{nat_tests, Decides-eqb}
+use Rattle.std.proofs.lemmas.Bool.Decides.{Decides-eqb}
 use Rattle.std.proofs.lemmas.Int.{ints}
 use Rattle.std.specs.Option.{option_map}
 use Rattle.std.specs.Prelude.{IfSome}
 use Rattle.machine_effect.specs.declared.effect.Access.{Access}
 use Rattle.machine_effect.specs.declared.effect.Value.{Value}
 use Rattle.machine_effect.specs.declared.flow.Shape.{Shape}
-use Rattle.machine_effect.specs.declared.flow.SpMove.TheVariants.{By, Keep}
+use Rattle.machine_effect.specs.declared.flow.SpMove.TheVariants.{Keep}
 use Rattle.machine_effect.specs.declared.frame.Frame.{Frame}
-use Rattle.machine_effect.specs.declared.next.Next.TheVariants as next
 use Rattle.machine_effect.specs.declared.state.State.{State}
 use Rattle.machine_effect.specs.Applies.{Applies, IsState, address_of}
 use Rattle.machine_effect.specs.Flow.{flow_of, of_link, stores_register}
@@ -23,13 +22,11 @@ use Rattle.asm_target.specs.Runs.{Leads, PlacedEffect}
 use Rattle.asm_target.specs.SequenceLaws.{below}
 use Rattle.asm_target.specs.Sequences.{span_of}
 use Rattle.image_model.specs.Actions.{ActsAs}
-use Rattle.image_model.specs.Image.{Image, Line, flow_in, has_link, next_of}
-use Rattle.image_model.specs.Kept.{SlotsStay}
+use Rattle.image_model.specs.Image.{Image, Line, flow_in, has_link}
 use Rattle.image_model.specs.Soundness.{Follows, IsSoundLine, SuitsRole, span_in}
-use Rattle.image_model.specs.Steps.{frame_after, link_in, or_stored, sp_of, stored_at, unless_passed}
-use Rattle.image_model.proofs.ActionLemmas.{acts_linked, falls_inside}
-use Rattle.image_runs.specs.Known.{Began, Holds, IsInner, in_link, slot_by, slot_in, slot_place, stored_before}
-use Rattle.image_runs.proofs.EffectLemmas.{at_slot, link_kept, slot_first, sp_kept, unpassed, word_stays}
+use Rattle.image_model.specs.Steps.{frame_after, or_stored, sp_of, stored_at}
+use Rattle.image_runs.specs.Known.{IsInner, in_link, slot_by, slot_in, slot_place, stored_before}
+use Rattle.image_runs.proofs.EffectLemmas.{at_slot, link_kept, sp_kept, unpassed, word_stays}
 
 pub shallow_zero : (some : Bool) (depth : ℕ) → (some && (depth == 0)) ≡ true → depth ≡ 0
 shallow_zero true depth is = (Decides-eqb depth 0).0 is

@@ -1,14 +1,11 @@
 -- The last instruction of a sequence, or one that stands alone.
-use Rattle.std.proofs.Common.{◌≡◌, ◌⊎◌, ℕ, zero, suc, ℤ, pos, ◌+◌, ◌-◌, ◌<◌, ◌≤◌, ◌^◌, ◌%◌, ◌==◌, ◌&&◌, ◌||◌, Bool, true, false, not, List, [], ◌∷◌, Option, Some, None, is_some, refl, sym, ap, ◌∙◌, subst, arith, inl, inr, if◌then◌else◌}
-use Rattle.std.proofs.lemmas.Bool.{cases_order}
-use Rattle.std.proofs.lemmas.Bool.Decides.{nat_tests, Decides-eqb}
+use Rattle.std.proofs.Common.{◌≡◌, ℕ, suc, ℤ, pos, ◌+◌, ◌-◌, ◌<◌, ◌≤◌, ◌^◌, ◌%◌, ◌==◌, ◌&&◌, ◌||◌, Bool, true, false, Option, Some, None, is_some, refl, sym, ap, ◌∙◌, subst, arith, if◌then◌else◌}
+use Rattle.std.proofs.lemmas.Bool.Decides.{nat_tests}
 use Rattle.std.proofs.lemmas.Int.{ints}
 use Rattle.std.specs.Option.{option_map}
 use Rattle.std.specs.Prelude.{IfSome, ◌+ℤ◌, ◌-ℤ◌}
 use Rattle.machine_effect.specs.declared.effect.Access.{Access}
 use Rattle.machine_effect.specs.declared.effect.Value.{Value}
-use Rattle.machine_effect.specs.declared.flow.Flow.{Flow}
-use Rattle.machine_effect.specs.declared.flow.Shape.{Shape}
 use Rattle.machine_effect.specs.declared.flow.SpMove.{SpMove}
 use Rattle.machine_effect.specs.declared.flow.SpMove.TheVariants.{By, Keep, Other}
 use Rattle.machine_effect.specs.declared.frame.Frame.{Frame}
@@ -22,7 +19,7 @@ use Rattle.machine_effect.specs.Stores.{BytesStay}
 use Rattle.machine_effect.specs.Values.{reg_of}
 use Rattle.asm_target.specs.declared.sequence.Sequence.{Sequence}
 use Rattle.asm_target.specs.declared.sequence.Sequence.TheVariants.{Plain, Saving, Restoring, Growth}
-use Rattle.asm_target.specs.DepthChange.{depth_added, is_call, is_return, moved_by}
+use Rattle.asm_target.specs.DepthChange.{depth_added, is_call, is_return}
 use Rattle.asm_target.specs.FlowRules.{is_other}
 use Rattle.asm_target.specs.Runs.{Leads, PlacedEffect}
 use Rattle.asm_target.specs.SequenceLaws.{below}
@@ -30,9 +27,9 @@ use Rattle.asm_target.specs.Sequences.{depth_added_by, span_of}
 use Rattle.image_model.specs.Actions.{ActsAs, RestoresLink, SavesLink, IsTotal}
 use Rattle.image_model.specs.Image.{Image, Line, flow_in, has_link, next_of}
 use Rattle.image_model.specs.Soundness.{IsSoundLine, SuitsRole, span_in}
-use Rattle.image_model.specs.Steps.{HasRoom, IsInRange, distance_of, frame_after, link_in, or_stored, register_or_zero, sp_of, stored_at, unless_passed}
+use Rattle.image_model.specs.Steps.{HasRoom, IsInRange, distance_of, frame_after, or_stored, register_or_zero, sp_of, stored_at, unless_passed}
 use Rattle.asm_target.proofs.CleanLemmas.{some_below}
-use Rattle.image_runs.specs.Known.{Began, Holds, IsInner, in_link, slot_by, slot_in, slot_place, stored_before}
+use Rattle.image_runs.specs.Known.{Holds, IsInner, in_link, slot_by, slot_in, slot_place, stored_before}
 use Rattle.image_runs.proofs.EffectLemmas.{at_slot, link_kept, passed_not, passed_over, sp_kept, sp_moved, unpassed, word_stays}
 use Rattle.image_runs.proofs.InsideLemmas.{keep_stored, saving_slot, shallow_zero}
 

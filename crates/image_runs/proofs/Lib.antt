@@ -4,3 +4,4 @@ pub mod LastLemmas
 pub mod GoingLemmas
 pub mod CallLemmas
 pub mod OutLemmas
+pub mod RunLemmas

@@ -1,37 +1,33 @@
 -- Calls into the image, and calls to the outside.
-use Rattle.std.proofs.Common.{◌≡◌, ◌⊎◌, ℕ, zero, suc, ℤ, pos, ◌+◌, ◌-◌, ◌*◌, ◌<◌, ◌≤◌, ◌^◌, ◌%◌, ◌==◌, ◌&&◌, ◌||◌, Bool, true, false, not, List, [], ◌∷◌, Option, Some, None, is_some, length, refl, sym, ap, ◌∙◌, subst, arith, inl, inr, if◌then◌else◌}
-use Rattle.std.proofs.lemmas.Bool.{cases_order}
+use Rattle.std.proofs.Common.{◌≡◌, ◌⊎◌, ℕ, suc, ◌+◌, ◌-◌, ◌*◌, ◌<◌, ◌^◌, ◌%◌, ◌==◌, ◌&&◌, Bool, true, false, List, ◌∷◌, Option, Some, None, is_some, refl, sym, ap, ◌∙◌, subst, arith, inl, inr, if◌then◌else◌}
 use Rattle.std.proofs.lemmas.Int.{ints}
-use Rattle.std.specs.Prelude.{IfSome, ◌+ℤ◌}
 use Rattle.machine_effect.specs.declared.frame.Frame.{Frame}
 use Rattle.machine_effect.specs.declared.next.Next.{Next}
 use Rattle.machine_effect.specs.declared.next.Next.TheVariants as next
 use Rattle.machine_effect.specs.declared.state.State.{State}
-use Rattle.machine_effect.specs.Applies.{Applies, IsState, link_of}
-use Rattle.machine_effect.specs.Memory.{Memory, bytes_of, put, word_at}
-use Rattle.machine_effect.specs.Stores.{BytesStay}
-use Rattle.machine_effect.specs.Values.{atom_of, reg_of}
+use Rattle.machine_effect.specs.Applies.{IsState, link_of}
+use Rattle.machine_effect.specs.Memory.{word_at}
+use Rattle.machine_effect.specs.Values.{reg_of}
 use Rattle.machine_effect.proofs.StateLemmas.{number_at-put}
 use Rattle.machine_effect.proofs.StepLemmas.{links}
 use Rattle.asm_target.specs.declared.sequence.Sequence.{Sequence}
-use Rattle.asm_target.specs.declared.sequence.Sequence.TheVariants.{Plain, Saving, Restoring, Growth}
+use Rattle.asm_target.specs.declared.sequence.Sequence.TheVariants.{Plain, Growth}
 use Rattle.asm_target.specs.DepthChange.{is_call}
-use Rattle.asm_target.specs.FlowFunction.{is_within}
 use Rattle.asm_target.specs.FlowRules.{can_pass}
 use Rattle.asm_target.specs.Runs.{Leads}
 use Rattle.asm_target.specs.Sequences.{span_of}
-use Rattle.image_model.specs.Actions.{ActsAs, GrowsStack}
-use Rattle.image_model.specs.Image.{Image, IsOutside, Line, flow_in, has_link, is_growth_call, is_served, next_of}
+use Rattle.image_model.specs.Actions.{ActsAs}
+use Rattle.image_model.specs.Image.{Image, Line, has_link, is_growth_call, next_of}
 use Rattle.image_model.specs.Kept.{KeepsCall, SlotsStay}
-use Rattle.image_model.specs.Soundness.{Follows, IsPlainLine, IsSound, IsSoundLine, SuitsRole, span_in}
-use Rattle.image_model.specs.Steps.{Asks, AsksOutside, Calls, Moment, Pushes, PushesReturn, called, calls_to, link_in, pushed, register_or_zero, sp_of}
-use Rattle.image_runs.specs.Known.{Holds, IsCaller, IsInner, IsKnown, Standing, in_link, slot_by, slot_in, slot_place}
+use Rattle.image_model.specs.Soundness.{Follows, IsPlainLine, IsSound, IsSoundLine, span_in}
+use Rattle.image_model.specs.Steps.{Asks, AsksOutside, Calls, Moment, PushesReturn, called, link_in, pushed, register_or_zero, sp_of}
+use Rattle.image_runs.specs.Known.{Holds, IsInner, IsKnown, Standing, in_link, slot_by, slot_place}
 use Rattle.image_runs.proofs.CallLemmas as calls
 use Rattle.image_runs.proofs.CallLemmas.{call_not_fall, call_passes, calls_is, growth_goal, pushed_linked, pushed_unlinked, pushes_sp, serves}
 use Rattle.image_runs.proofs.EffectLemmas.{sp_kept}
-use Rattle.image_runs.proofs.GoingLemmas.{ends_alone, growth_last, standing_same}
+use Rattle.image_runs.proofs.GoingLemmas.{ends_alone, growth_last}
 use Rattle.image_runs.proofs.InsideLemmas.{shallow_zero}
-use Rattle.image_runs.proofs.LastLemmas.{deep_below, deep_unlinked, inner_anew, place_linked, place_unlinked, shallow_linked}
+use Rattle.image_runs.proofs.LastLemmas.{deep_below, deep_unlinked, inner_anew, place_unlinked, shallow_linked}
 
 asks_passes : (p : Line) (frame : Frame) (further : List Frame) (img : Image) (m n : Moment) (loaded : ℕ) (goes : Next)
     → AsksOutside img p frame further m n loaded goes → can_pass goes ≡ true
@@ -79,7 +75,7 @@ module _ (img : Image) (sound : IsSound img) (m n : Moment) (state : IsState m.s
   plain_line : p.role ≡ Plain → has_link img ≡ true → IsPlainLine img p
   plain_line = calls.plain_line img sound m n state then_state p here frame further stack inner standing stay
 
-  asks : Asks img p frame further m n → KeepsCall img p m n → IsKnown img n
+  pub asks : Asks img p frame further m n → KeepsCall img p m n → IsKnown img n
   asks way kept =
       let not_fall = asks_not_fall p frame further img m n way.loaded (next_of p) way.goes in
       let behind = line_sound.behind (asks_passes p frame further img m n way.loaded (next_of p) way.goes) in
@@ -171,7 +167,7 @@ module _ (img : Image) (sound : IsSound img) (m n : Moment) (state : IsState m.s
           ]
 
   -- a call of a function of the image
-  call : Calls img p frame further m n → IsKnown img n
+  pub call : Calls img p frame further m n → IsKnown img n
   call way =
       let goal : ℕ = way.goal in
       let loaded : ℕ = way.applies.loaded in
@@ -228,8 +224,10 @@ module _ (img : Image) (sound : IsSound img) (m n : Moment) (state : IsState m.s
         where
           by : (b : Bool) → is_growth_call img.is_growth_routine (next_of p) ≡ b → is_growth_call img.is_growth_routine (next_of p) ≡ false
           by true grows =
-              absurd (cc (sound.inside way.goal q there,
-              sound.growth way.goal (growth_goal img.is_growth_routine m.state way.applies.loaded (next_of p) way.goal way.goes grows)))
+              absurd (cc (
+                sound.inside way.goal q there,
+                sound.growth way.goal (growth_goal img.is_growth_routine m.state way.applies.loaded (next_of p) way.goal way.goes grows),
+              ))
           by false grows = grows
 
       alone : ¬ (next_of p ≡ next.Fall) → is_growth_call img.is_growth_routine (next_of p) ≡ false → p.role ≡ Plain
