@@ -2,7 +2,6 @@
 use Rattle.std.proofs.Common.{◌≡◌, ℕ, suc, ◌+◌, ◌-◌, ◌<◌, ◌≤◌, ◌&&◌, not, true, false, if◌then◌else◌, refl, sym, ap, ◌∙◌, subst, arith}
 use Rattle.std.proofs.lemmas.Bool.Decides.{nat_tests}
 use Rattle.std.specs.Prelude.{nat_lt}
-use Rattle.asm_target.specs.declared.sequence.Sequence.{Sequence}
 use Rattle.asm_target.specs.declared.sequence.Sequence.TheVariants.{Plain}
 use Rattle.asm_target.specs.DepthChange.{is_hit}
 use Rattle.asm_target.specs.FlowFunction.{FlowFunction, is_in_order, is_target, sequence_at, span_at, start_at, start_of}
@@ -45,14 +44,3 @@ module _ (f : FlowFunction) where
         | true ↦ omega (arith, span_most (f.found k), lawful.within k inside)
         | false ↦ omega arith
       ]
-
-  -- behind the last instruction of the one before, the next begins
-  pub begins_anew : (k : ℕ) (before : Role) (found : Sequence) → LeadsTo f k before → before.past ≤ k → found ≡ sequence_at f k
-      → IsRole f k (record { start = k; past = k + span_of found; found = found })
-  begins_anew k before found leads low is =
-      let same : start_at f k ≡ k = leads.over low in
-      record {
-        start = sym same;
-        past = subst (λ (s : ℕ). k + span_of found ≡ s + span_at f s) (sym same) (ap (λ (q : Sequence). k + span_of q) is);
-        found = is ∙ ap (sequence_at f) (sym same);
-      }

@@ -18,6 +18,11 @@ module _ (f : FlowFunction) where
     pub order : is_in_order f s (f.found s) ≡ true
     pub over : k < s + count_of (f.found s)
 
+  -- the sequence that begins at s is in order, and a jump goes into it
+  pub record IsBroken (s : ℕ) : Type 0 where
+    pub order : is_in_order f s (f.found s) ≡ true
+    pub hit : is_hit (is_target f) s (count_of (f.found s) - 1) ≡ true
+
   -- no jump goes into one of the sequences that begin before `first` and are in order
   abbrev pub AreUnhit : ℕ → Type 0
   AreUnhit first = (s : ℕ) → s < first → is_in_order f s (f.found s) ≡ true

@@ -2,7 +2,7 @@ ghost use Rattle.std.specs.Prelude.{◌≡◌, ℕ, ◌+◌, ◌-◌, ◌<◌, �
 ghost use Rattle.asm_target.specs.DepthChange as changes;
 ghost use Rattle.asm_target.specs.FlowFunction as functions;
 ghost use Rattle.asm_target.specs.Sequences as sequences;
-ghost use Rattle.flow_rules.specs.Passing.{AreUnhit, GoesOver};
+ghost use Rattle.flow_rules.specs.Passing.{AreUnhit, GoesOver, IsBroken};
 
 use crate::goes::{is_goal, jump_goal};
 use crate::listing::Listing;
@@ -16,7 +16,9 @@ use asm_target::Sequence;
 /// more, and that is seldom asked: the broken sequence moves the stack pointer or calls, where only a sequence may, and so breaks a
 /// rule by its own last instruction. There the check ends.
 pub fn first_hit<L: Listing>(list: &L) -> usize
-    ensures { AreUnhit (L.function list.now) result }
+    ensures most { result ≤ (L.function list.now).count }
+    ensures hit { result < (L.function list.now).count → IsBroken (L.function list.now) result }
+    ensures unhit { AreUnhit (L.function list.now) result }
 {
     let mut first = list.count();
     for number in 0..list.count() {
@@ -30,6 +32,7 @@ fn hit_by<L: Listing>(list: &L, number: usize, first: usize) -> usize
     requires inside { number < (L.function list.now).count }
     requires first { first ≤ (L.function list.now).count }
     ensures least { result ≤ first }
+    ensures hit { result < first → IsBroken (L.function list.now) result }
     ensures unhit { (s j : ℕ) → s < result → GoesOver (L.function list.now) s (s + j) → 0 < j
         → functions.is_goal (functions.jump_goal (functions.next_at (L.function list.now) number)) ((L.function list.now).at (s + j)) ≡ false }
 {
@@ -46,6 +49,8 @@ fn hit_by<L: Listing>(list: &L, number: usize, first: usize) -> usize
 fn begun_before<L: Listing>(list: &L, landing: usize, first: usize) -> usize
     requires inside { landing < (L.function list.now).count }
     ensures least { result ≤ first }
+    ensures before { result < first → result < landing }
+    ensures over { result < first → GoesOver (L.function list.now) result landing }
     ensures none { (s : ℕ) → s < result → s < landing → ¬ GoesOver (L.function list.now) s landing }
 {
     let mut least = first;

@@ -4,8 +4,9 @@ use Rattle.goasm_base.specs.Shelf.{Files, ReadLog}
 use Rattle.goasm_run.specs.declared.stop.Stop.{Stop}
 use Rattle.goasm_run.specs.declared.stop.Stop.TheVariants as stops
 use Rattle.goasm_run.specs.Changes.{ShelfChange, ReadsAll}
-use Rattle.goasm_run.specs.Plan.{Plan, Refusal, ComesTo}
-use Rattle.goasm_run.specs.Stops.{AnswerStopped, Stopped, Answers}
+use Rattle.goasm_run.specs.Endings.{Text, Refusal}
+use Rattle.goasm_run.specs.Plan.{Plan, ComesTo}
+use Rattle.goasm_run.specs.Stops.{AnswerStopped, EndStopped, Settles, Stopped, Answers}
 use Rattle.goasm_run.specs.PartsRead.{LeadsTo}
 
 -- what `?` hands on
@@ -37,4 +38,25 @@ leads_nowhere told plan before = record {
   asks = λ now name asks. asks;
   makes = λ now makes. makes;
   made = inl refl;
+}
+
+-- an end that reads nothing, where the plan has led to it
+
+led_end : (shelf : ShelfChange) (plan rest : Plan) (stop : Stop)
+    → LeadsTo shelf.holds plan shelf.reads_before rest shelf.reads_now → ReadsAll shelf → EndStopped rest stop → Stopped shelf plan stop
+led_end shelf plan rest (stops.Refused line) leads unfailed stopped =
+    (leads.comes shelf.reads_now (Refusal line) (stopped shelf.holds shelf.reads_now shelf.reads_now refl), unfailed)
+led_end shelf plan rest stops.Words leads unfailed stopped = stopped
+led_end shelf plan rest stops.Memory leads unfailed stopped = leads.made
+led_end shelf plan rest (stops.Unread name) leads unfailed stopped = absurd stopped
+
+pub led_settled : (shelf : ShelfChange) (plan rest : Plan) (result : Result (List ℕ) Stop)
+    → LeadsTo shelf.holds plan shelf.reads_before rest shelf.reads_now → ReadsAll shelf → Settles rest result → Answers shelf plan result
+led_settled shelf plan rest (Ok text) leads unfailed settles = record {
+  text = (leads.comes shelf.reads_now (Text text) (settles.text shelf.holds shelf.reads_now shelf.reads_now refl), unfailed);
+  stopped = tt;
+}
+led_settled shelf plan rest (Err stop) leads unfailed settles = record {
+  text = tt;
+  stopped = led_end shelf plan rest stop leads unfailed settles.stopped;
 }

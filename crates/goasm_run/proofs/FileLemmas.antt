@@ -4,7 +4,7 @@ use Rattle.std.proofs.lemmas.List.{length-map}
 use Rattle.std.proofs.Math.Seq.{drop-append_seam}
 use Rattle.std.specs.Prelude.{All}
 use Rattle.std.specs.List.{fold}
-use Rattle.std.proofs.lemmas.List.Elements.{All-head, All-tail, All-weaker, All-append, All-map}
+use Rattle.std.proofs.lemmas.List.Elements.{All-nil, All-cons, All-head, All-tail, All-weaker, All-append, All-map}
 use Rattle.asm_lex.specs.declared.token.Tokens.{Tokens}
 use Rattle.asm_lex.specs.declared.refusal.LexNo.{LexNo}
 use Rattle.asm_lex.specs.declared.refusal.LexNo.TheVariants as lexes
@@ -14,12 +14,13 @@ use Rattle.asm_macro.specs.declared.refusal.MacroNo.{MacroNo}
 use Rattle.asm_macro.specs.declared.refusal.MacroNo.TheVariants as macros
 use Rattle.asm_directive.specs.LineNames.{token_count, included_tokens, line_names_of}
 use Rattle.asm_macro.specs.Builds.{greatest, greatest_file}
-use Rattle.asm_macro.specs.Places.{AreInTheirFile, ArePlaced, RefusedIn, IsBelow, file_count}
+use Rattle.asm_macro.specs.Places.{AreInTheirFile, ArePlaced, RefusedIn, StandIn, IsBelow, file_count}
 use Rattle.asm_macro.specs.Refusals.{IsFault}
 use Rattle.asm_macro.proofs.BuildLemmas.{greatest_append}
 use Rattle.asm_macro.proofs.PlaceLemmas.{greatest_within}
 use Rattle.goasm_text.specs.declared.refusal.Refusal.TheVariants.{Lex, Macro}
 use Rattle.goasm_text.specs.Lines.{HasCause, HasName}
+use Rattle.goasm_run.specs.BuildsMade.{AreExpanded}
 use Rattle.goasm_run.specs.Limits.{source_limit}
 use Rattle.goasm_run.specs.Sources.{Sources, refusal_on}
 use Rattle.goasm_run.specs.SourcesLexed.{IsLexed, IsFile, AreLexed}
@@ -161,6 +162,28 @@ room_left count found names some few lexed most quarter =
     let mapped : length (included_tokens found.includes) ≡ length found.includes = length-map found.includes (λ include. include.1) in
     let last = greatest_below count found some lexed in
     omega (arith, quarter, sum, joined, mapped, most, few, last)
+
+each_within : (all : List Tokens) (start most : ℕ) → fold (λ sum tokens. sum + length tokens.list) start all ≤ most
+    → (start ≤ most) × All (λ tokens. length tokens.list ≤ most) all
+each_within [] start most within = (within, All-nil (λ tokens. length tokens.list ≤ most))
+each_within (tokens ∷ all) start most within =
+    let rest = each_within all (start + length tokens.list) most within in
+    let here = rest.0 in (
+      omega (arith, here),
+      All-cons (λ tokens. length tokens.list ≤ most) tokens all (omega (arith, here)) rest.1,
+    )
+
+-- what expansion gives
+
+pub are_expanded : (files : List (List ℕ)) (count : ℕ) (all : List Tokens)
+    → token_count all ≤ 4000000 → All (StandIn (IsBelow count)) all → count ≤ length files → AreExpanded files all
+are_expanded files count all few stand named = record {
+  few = (each_within all 0 4000000 few).1;
+  placed = All-weaker (StandIn (IsBelow count)) (StandIn (IsBelow (length files)))
+      (λ tokens. All-weaker (λ token. token.pos.file < count) (λ token. token.pos.file < length files)
+      (λ token below. omega (arith, below, named)) tokens.list)
+      all stand;
+}
 
 -- all files have names
 

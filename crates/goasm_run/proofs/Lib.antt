@@ -1,5 +1,6 @@
 mod PlanLemmas
 mod AnswerLemmas
+mod BuildLemmas
 mod StatusLemmas
 mod Examples
 mod PartLemmas
@@ -7,3 +8,6 @@ mod SourceLemmas
 mod StatementLemmas
 mod NumberLemmas
 mod FileLemmas
+mod QuestionLemmas
+mod WordLemmas
+mod ListingLemmas

@@ -4,10 +4,12 @@ use Rattle.goasm_base.specs.Sink.{with_more}
 use Rattle.goasm_run.specs.declared.stop.Stop.{Stop}
 use Rattle.goasm_run.specs.declared.stop.Stop.TheVariants as stops
 use Rattle.goasm_run.specs.Changes.{ShelfChange, SinkChange, Takes, FailsToTake, TakesNothing}
-use Rattle.goasm_run.specs.Plan.{Plan, Ask, Tell, Refuse, Malformed, Text, Refusal, NoForm, EndsIn, StopsAt, MakesReads, ending_of}
+use Rattle.goasm_run.specs.Endings.{Text, Refusal}
+use Rattle.goasm_run.specs.Plan.{Plan, Ask, Tell, Refuse, Pose, Malformed, EndsIn, StopsAt, MakesReads, EndsOver}
+use Rattle.goasm_run.specs.Questions.{HaveOneAnswer}
 use Rattle.goasm_run.specs.Stops.{Stopped, AnswersWords}
 use Rattle.goasm_run.specs.Statuses.{SaysWhy, SaysRefusal, SaysWords, SaysMemory, SaysUnread, ErrFailed, KeptBack, NoMemory, NoFile, NoLine, IsToldBy, Told}
-use Rattle.goasm_run.proofs.PlanLemmas.{no_text, one_refusal, malformed_unrefused, malformed_unread, ends_makes, stops_makes}
+use Rattle.goasm_run.proofs.PlanLemmas.{no_text, one_refusal, malformed_untold, malformed_unended, malformed_unrefused, malformed_unread, ends_makes, stops_makes}
 
 -- the words' command ended so, or they have no command's form
 abbrev pub WordsStopped : ShelfChange → Plan → Stop → Type 0
@@ -20,6 +22,7 @@ is_malformed : (plan : Plan) → (plan ≡ Malformed) ⊎ (plan ≢ Malformed)
 is_malformed (Ask name limit next) = inr (λ is. cc)
 is_malformed (Tell text) = inr (λ is. cc)
 is_malformed (Refuse line) = inr (λ is. cc)
+is_malformed (Pose question) = inr (λ is. cc)
 is_malformed Malformed = inl refl
 
 no_text_there : (text : List ℕ) (stop : Stop) (result : Result (List ℕ) Stop) → result ≡ Ok text → result ≡ Err stop → ⊥
@@ -55,10 +58,6 @@ words_stopped shelf plan stop answers =
           malformed_stopped shelf plan stop is (same_stop stop stops.Words (Err stop) refl (answers.words is).0) (answers.words is).1
       | inr formed ↦ formed_stopped shelf plan stop formed (answers.answers formed).stopped
     ]
-
--- words of no form have no other ending
-no_form : (files : Files) (plan : Plan) → plan ≡ Malformed → ending_of files plan ≡ Some NoForm
-no_form files plan is = rw is refl
 
 -- the line that tells a stop says why there is no text
 says_why : (shelf : ShelfChange) (plan : Plan) (stop : Stop) (status : ℕ) (line : List ℕ)
@@ -104,39 +103,37 @@ unread_kept shelf plan out err name result unwritten stopped told =
     ]
 
 -- where the words have a text, only want of memory, a read that failed or a failing sink keep it back
-pub kept_back : (shelf : ShelfChange) (plan : Plan) (out err : SinkChange) (files : Files) (text : List ℕ)
+pub kept_back : HaveOneAnswer → (shelf : ShelfChange) (plan : Plan) (out err : SinkChange) (files : Files) (text : List ℕ)
     (stop : Stop) (result : ℕ)
-    → shelf.holds ≡ Some files → ending_of files plan ≡ Some (Text text)
+    → shelf.holds ≡ Some files → EndsOver files plan (Text text)
     → TakesNothing out → WordsStopped shelf plan stop → Told err stop result → KeptBack result shelf plan out err
-kept_back shelf plan out err files text (stops.Refused line) result tells is unwritten stopped told =
-    absurd (no_text shelf files plan line text tells stopped is)
-kept_back shelf plan out err files text stops.Words result tells is unwritten stopped told =
-    let same : Some NoForm ≡ Some (Text text) = sym (no_form files plan stopped.0) ∙ is in
-    cc
-kept_back shelf plan out err files text stops.Memory result tells is unwritten stopped told =
+kept_back one shelf plan out err files text (stops.Refused line) result tells is unwritten stopped told =
+    absurd (no_text one shelf files plan line text tells stopped is)
+kept_back one shelf plan out err files text stops.Words result tells is unwritten stopped told =
+    absurd (malformed_untold files plan text stopped.0 is)
+kept_back one shelf plan out err files text stops.Memory result tells is unwritten stopped told =
     memory_kept shelf plan out err result unwritten stopped told
-kept_back shelf plan out err files text (stops.Unread name) result tells is unwritten stopped told =
+kept_back one shelf plan out err files text (stops.Unread name) result tells is unwritten stopped told =
     unread_kept shelf plan out err name result unwritten stopped told
 
 -- where the input meets a refusal, its line is told, or the same keep it back
-pub refusal_told : (shelf : ShelfChange) (plan : Plan) (out err : SinkChange) (files : Files) (line : List ℕ)
+pub refusal_told : HaveOneAnswer → (shelf : ShelfChange) (plan : Plan) (out err : SinkChange) (files : Files) (line : List ℕ)
     (stop : Stop) (result : ℕ)
-    → shelf.holds ≡ Some files → ending_of files plan ≡ Some (Refusal line)
+    → shelf.holds ≡ Some files → EndsOver files plan (Refusal line)
     → TakesNothing out → WordsStopped shelf plan stop → Told err stop result
     → ((result ≡ 1) × Takes err line) ⊎ KeptBack result shelf plan out err
-refusal_told shelf plan out err files line (stops.Refused said) result tells is unwritten stopped told =
-    let same : said ≡ line = one_refusal shelf files plan said line tells stopped is in
+refusal_told one shelf plan out err files line (stops.Refused said) result tells is unwritten stopped told =
+    let same : said ≡ line = one_refusal one shelf files plan said line tells stopped is in
     let shown : told.1 ≡ line = told.2.1 ∙ same in
     elim told.3 [
       | inl taken ↦ inl (taken.0 ∙ told.2.0, taken.1 ∙ ap (λ l. with_more err.taken_before l) shown)
       | inr failed ↦ inr (NoLine failed.0 (err_failed shelf plan out err (stops.Refused said) told.0 told.1 unwritten stopped told.2 failed.1))
     ]
-refusal_told shelf plan out err files line stops.Words result tells is unwritten stopped told =
-    let same : Some NoForm ≡ Some (Refusal line) = sym (no_form files plan stopped.0) ∙ is in
-    cc
-refusal_told shelf plan out err files line stops.Memory result tells is unwritten stopped told =
+refusal_told one shelf plan out err files line stops.Words result tells is unwritten stopped told =
+    absurd (malformed_unended files plan line stopped.0 is)
+refusal_told one shelf plan out err files line stops.Memory result tells is unwritten stopped told =
     inr (memory_kept shelf plan out err result unwritten stopped told)
-refusal_told shelf plan out err files line (stops.Unread name) result tells is unwritten stopped told =
+refusal_told one shelf plan out err files line (stops.Unread name) result tells is unwritten stopped told =
     inr (unread_kept shelf plan out err name result unwritten stopped told)
 
 -- words of no form are told by 2, or the standard error failed

@@ -3,19 +3,21 @@ use Rattle.std.specs.Prelude.{ℕ, List, [], ◌∷◌, Option, Some, None, code
 use Rattle.std.specs.Str.{bytes_eq}
 use Rattle.goasm_base.specs.Numbers.{number_of}
 use Rattle.goasm_run.specs.declared.command.Command.{Command}
-use Rattle.goasm_run.specs.declared.command.Command.TheVariants.{Lookup, Bytes, Expand}
+use Rattle.goasm_run.specs.declared.command.Command.TheVariants.{Lookup, Bytes, Expand, Listing}
 use Rattle.goasm_run.specs.Plan.{Plan, Malformed}
 use Rattle.goasm_run.specs.declared.architecture.Architecture.{Architecture}
 use Rattle.goasm_run.specs.Lookup.{lookup_plan}
 use Rattle.goasm_run.specs.Bytes.{architecture_of, bytes_plan}
 use Rattle.goasm_run.specs.Expand.{expand_plan}
+use Rattle.goasm_run.specs.Listing.{listing_plan}
 
 -- the command that a word names
 unfoldable pub command_of : List ℕ → Option Command
 command_of word =
     if bytes_eq word (codes "lookup") then Some Lookup
     else (if bytes_eq word (codes "bytes") then Some Bytes
-    else (if bytes_eq word (codes "expand") then Some Expand else None))
+    else (if bytes_eq word (codes "expand") then Some Expand
+    else (if bytes_eq word (codes "listing") then Some Listing else None)))
 
 -- `lookup TABLE PC`, where PC is a number
 abbrev pub lookup_at : List ℕ → Option ℕ → Plan
@@ -27,17 +29,24 @@ abbrev pub bytes_of : Option Architecture → List ℕ → Plan
 bytes_of (Some architecture) file = bytes_plan architecture file
 bytes_of None file = Malformed
 
+-- `listing TARGET LIST`, where TARGET is an architecture
+abbrev pub listing_of : Option Architecture → List ℕ → Plan
+listing_of (Some architecture) list = listing_plan architecture list
+listing_of None list = Malformed
+
 -- the commands of one word more
 abbrev pub plan_of_one : Option Command → List ℕ → Plan
 plan_of_one (Some Expand) first = expand_plan first
 plan_of_one (Some Lookup) first = Malformed
 plan_of_one (Some Bytes) first = Malformed
+plan_of_one (Some Listing) first = Malformed
 plan_of_one None first = Malformed
 
 -- the commands of two words more
 abbrev pub plan_of_two : Option Command → List ℕ → List ℕ → Plan
 plan_of_two (Some Lookup) first second = lookup_at first (number_of second)
 plan_of_two (Some Bytes) first second = bytes_of (architecture_of first) second
+plan_of_two (Some Listing) first second = listing_of (architecture_of first) second
 plan_of_two (Some Expand) first second = Malformed
 plan_of_two None first second = Malformed
 

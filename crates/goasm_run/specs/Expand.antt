@@ -1,20 +1,13 @@
 -- `expand LIST`: every statement of the sources after macros, inclusions and conditions.
-use Rattle.std.specs.Prelude.{ℕ, Bool, true, false, List, [], ◌∷◌, ◌++◌, codes, map, Result, Ok, Err, if◌then◌else◌}
+use Rattle.std.specs.Prelude.{ℕ, Bool, true, false, List, [], ◌∷◌, ◌++◌, codes, map, if◌then◌else◌}
 use Rattle.std.specs.List.{concat}
 use Rattle.asm_lex.specs.declared.token.Kind.{Kind}
 use Rattle.asm_lex.specs.declared.token.Kind.TheVariants.{Word, Number, Text, Sign, End}
 use Rattle.asm_lex.specs.declared.token.Token.{Token}
 use Rattle.asm_lex.specs.declared.token.Tokens.{Tokens}
-use Rattle.asm_directive.specs.LineNames.{line_names_of}
-use Rattle.asm_macro.specs.Builds.{Outcome, Done, Refused, outcome_of}
-use Rattle.goasm_list.specs.declared.line.ListLine.{ListLine}
-use Rattle.goasm_text.specs.declared.refusal.Refusal.TheVariants.{Macro}
-use Rattle.goasm_text.specs.Lines.{newline, place_text, line_of}
-use Rattle.goasm_run.specs.declared.part.Part.{Part}
-use Rattle.goasm_run.specs.Plan.{Plan, Tell, Refuse}
-use Rattle.goasm_run.specs.Lists.{list_plan}
-use Rattle.goasm_run.specs.Parts.{ask_parts}
-use Rattle.goasm_run.specs.Sources.{Sources, file_names, lexed}
+use Rattle.goasm_text.specs.Lines.{newline, place_text}
+use Rattle.goasm_run.specs.Plan.{Plan, Tell}
+use Rattle.goasm_run.specs.Builds.{Judge, build_plan}
 
 abbrev pub is_end : Kind → Bool
 is_end Word = false
@@ -54,24 +47,8 @@ list_text files tokens = concat (map (statement_text files) (statements_of token
 unfoldable pub expanded_text : List (List ℕ) → List Tokens → List ℕ
 expanded_text files all = concat (map (λ tokens. list_text files tokens.list) all)
 
-abbrev pub over_outcome : List (List ℕ) → Outcome → Plan
-over_outcome files (Done all) = Tell (expanded_text files all)
-over_outcome files (Refused why) = Refuse (line_of (Macro why) files)
-
--- behind the names of files come those that `#line` directives give
-abbrev pub over_sources : List (List ℕ) → Result Sources (List ℕ) → Plan
-over_sources names (Err line) = Refuse line
-over_sources names (Ok found) =
-    over_outcome (names ++ line_names_of found.sources found.includes)
-    (outcome_of found.sources found.includes found.defines)
-
--- over the parts of the build
-unfoldable pub expand_answer : List ℕ → List Part → Plan
-expand_answer list parts = over_sources (file_names list parts) (lexed (file_names list parts) parts)
-
--- over the lines of the list
-abbrev pub expand_lines : List ℕ → List ListLine → Plan
-expand_lines list lines = ask_parts 1 lines [] (expand_answer list)
+abbrev pub expand_judge : Judge
+expand_judge files all = Tell (expanded_text files all)
 
 abbrev pub expand_plan : List ℕ → Plan
-expand_plan list = list_plan list (expand_lines list)
+expand_plan list = build_plan expand_judge list

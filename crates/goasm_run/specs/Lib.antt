@@ -1,5 +1,8 @@
 -- What words ask for, and what a shelf and a sink tell of a call.
 pub mod Changes
+pub mod Endings
+pub mod Targets
+pub mod Questions
 pub mod Plan
 pub mod Limits
 pub mod Lines
@@ -9,7 +12,9 @@ pub mod Bytes
 pub mod Parts
 pub mod Sources
 pub mod Lists
+pub mod Builds
 pub mod Expand
+pub mod Listing
 pub mod Commands
 -- What a status says.
 pub mod Statuses
@@ -17,4 +22,6 @@ pub mod Statuses
 pub mod Stops
 pub mod PartsRead
 pub mod SourcesLexed
+pub mod BuildsMade
+pub mod UnitsSaid
 pub mod TokensWritten

@@ -6,7 +6,8 @@ use Rattle.goasm_run.specs.declared.part.Part.{Part}
 use Rattle.goasm_run.specs.declared.stop.Stop.{Stop}
 use Rattle.goasm_run.specs.declared.stop.Stop.TheVariants as stops
 use Rattle.goasm_run.specs.Changes.{ShelfChange, FailsToRead}
-use Rattle.goasm_run.specs.Plan.{Plan, Ending, ComesTo, AsksFor, MakesSome, MakesReads}
+use Rattle.goasm_run.specs.Endings.{Ending}
+use Rattle.goasm_run.specs.Plan.{Plan, ComesTo, AsksFor, MakesSome, MakesReads}
 use Rattle.goasm_run.specs.Parts.{ask_parts}
 use Rattle.goasm_run.specs.Sources.{names_of}
 

@@ -1,7 +1,9 @@
 -- What words ask for: which files are read, in which order and up to which length, and then a text or a refusal.
-use Rattle.std.specs.Prelude.{◌≡◌, ◌⊎◌, ℕ, List, ◌+◌, ◌≤◌, length, Option, Some, None}
+use Rattle.std.specs.Prelude.{◌≡◌, ◌⊎◌, ℕ, List, ◌+◌, ◌≤◌, length, Option, Some}
 use Rattle.goasm_base.specs.Shelf.{Files, read_of, Reads, ReadLog, with_read}
 use Rattle.goasm_run.specs.Changes.{ShelfChange, FailsToRead, ReadsAll}
+use Rattle.goasm_run.specs.Endings.{Ending, Text, Refusal, NoForm}
+use Rattle.goasm_run.specs.Questions.{Question, IsSound, IsAnswer}
 
 pub data Plan : Type 0 where
   -- read the first bytes of the named file, one more than its limit, and go on by them
@@ -10,26 +12,23 @@ pub data Plan : Type 0 where
   Tell : (text : List ℕ) → Plan
   -- the input meets a refusal, whose line this is
   Refuse : (line : List ℕ) → Plan
+  -- end as this question is answered
+  Pose : (question : Question) → Plan
   -- the words have no command's form
   Malformed : Plan
-
--- how a plan ends where every file that it asks for is read
-pub data Ending : Type 0 where
-  Text : (text : List ℕ) → Ending
-  Refusal : (line : List ℕ) → Ending
-  NoForm : Ending
 
 -- Below, the reads of a plan lead from the log `before` to the log `now`: each is one read more, of the name that the plan
 -- asks for. So none is tried again, none is left out, they come in the plan's order, and no other file is read.
 
 -- a plan may come to an ending over some answers of the shelf; where the shelf tells its files, the answers are
--- what these hold, and the ending is the one that `ending_of` gives
+-- what these hold, and the ending is the one that it has over them
 abbrev pub ComesTo : Option Files → Plan → ReadLog → ReadLog → Ending → Type 0
 ComesTo told (Ask name limit next) before now ending =
     (bytes : List ℕ) × Reads told name limit bytes × (length bytes ≤ limit + 1)
     × ComesTo told (next bytes) (with_read name before) now ending
 ComesTo told (Tell text) before now ending = (Text text ≡ ending) × (now ≡ before)
 ComesTo told (Refuse line) before now ending = (Refusal line ≡ ending) × (now ≡ before)
+ComesTo told (Pose question) before now ending = IsSound question × IsAnswer question ending × (now ≡ before)
 ComesTo told Malformed before now ending = (NoForm ≡ ending) × (now ≡ before)
 
 -- a plan comes to ask for a file of this name, after reads that the shelf answered; that read is the last one
@@ -40,6 +39,7 @@ AsksFor told (Ask asked limit next) before now name =
     × AsksFor told (next bytes) (with_read asked before) now name)
 AsksFor told (Tell text) before now name = ⊥
 AsksFor told (Refuse line) before now name = ⊥
+AsksFor told (Pose question) before now name = ⊥
 AsksFor told Malformed before now name = ⊥
 
 -- a plan makes its first reads, one at least; the shelf answered all of them but the last, of which nothing is said
@@ -50,6 +50,7 @@ MakesSome told (Ask name limit next) before now =
     × MakesSome told (next bytes) (with_read name before) now)
 MakesSome told (Tell text) before now = ⊥
 MakesSome told (Refuse line) before now = ⊥
+MakesSome told (Pose question) before now = ⊥
 MakesSome told Malformed before now = ⊥
 
 -- the reads that a call made are the first ones of the plan, or there was none
@@ -67,13 +68,11 @@ abbrev pub StopsAt : ShelfChange → Plan → List ℕ → Type 0
 StopsAt shelf plan name =
     AsksFor shelf.holds plan shelf.reads_before shelf.reads_now name × FailsToRead shelf name
 
--- the ending over these files; `None` where a file is asked for that they don't have
-abbrev pub after_read : (List ℕ → Option Ending) → Option (List ℕ) → Option Ending
-after_read next (Some bytes) = next bytes
-after_read next None = None
-
-abbrev pub ending_of : Files → Plan → Option Ending
-ending_of files (Ask name limit next) = after_read (λ bytes. ending_of files (next bytes)) (read_of files name limit)
-ending_of files (Tell text) = Some (Text text)
-ending_of files (Refuse line) = Some (Refusal line)
-ending_of files Malformed = Some NoForm
+-- a plan ends so over these files; it has no ending where a file is asked for that they don't have
+abbrev pub EndsOver : Files → Plan → Ending → Type 0
+EndsOver files (Ask name limit next) ending =
+    (bytes : List ℕ) × (read_of files name limit ≡ Some bytes) × EndsOver files (next bytes) ending
+EndsOver files (Tell text) ending = Text text ≡ ending
+EndsOver files (Refuse line) ending = Refusal line ≡ ending
+EndsOver files (Pose question) ending = IsAnswer question ending
+EndsOver files Malformed ending = NoForm ≡ ending

@@ -3,7 +3,8 @@ use Rattle.std.specs.Prelude.{◌≡◌, ◌⊎◌, ℕ, List}
 use Rattle.goasm_run.specs.declared.stop.Stop.{Stop}
 use Rattle.goasm_run.specs.declared.stop.Stop.TheVariants as stops
 use Rattle.goasm_run.specs.Changes.{ShelfChange, SinkChange, Takes, FailsToTake, TakesNothing}
-use Rattle.goasm_run.specs.Plan.{Plan, Malformed, Text, Refusal, EndsIn, StopsAt}
+use Rattle.goasm_run.specs.Endings.{Text, Refusal}
+use Rattle.goasm_run.specs.Plan.{Plan, Malformed, EndsIn, StopsAt}
 use Rattle.goasm_run.specs.Lines.{words_line, memory_line, unread_line}
 
 -- a line that says why there is no text

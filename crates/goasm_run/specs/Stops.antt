@@ -1,10 +1,11 @@
 -- What it means that a command ended with a text, or without one.
-use Rattle.std.specs.Prelude.{◌≡◌, ◌≢◌, ◌⊎◌, ℕ, List, ◌+◌, ◌≤◌, length, Result, Err, IfOk, IfErr}
-use Rattle.goasm_base.specs.Shelf.{Reads, with_read}
+use Rattle.std.specs.Prelude.{◌≡◌, ◌≢◌, ◌⊎◌, ℕ, List, ◌+◌, ◌≤◌, length, Option, Result, Err, IfOk, IfErr}
+use Rattle.goasm_base.specs.Shelf.{Files, Reads, ReadLog, with_read}
 use Rattle.goasm_run.specs.declared.stop.Stop.{Stop}
 use Rattle.goasm_run.specs.declared.stop.Stop.TheVariants as stops
 use Rattle.goasm_run.specs.Changes.{ShelfChange, FailsToRead, ReadsAll}
-use Rattle.goasm_run.specs.Plan.{Plan, Tell, Refuse, Malformed, Text, Refusal, MakesReads, EndsIn, StopsAt}
+use Rattle.goasm_run.specs.Endings.{Ending, Text, Refusal}
+use Rattle.goasm_run.specs.Plan.{Plan, Tell, Refuse, Malformed, ComesTo, MakesReads, EndsIn, StopsAt}
 
 -- a read of this name gave these bytes
 pub record IsRead (shelf : ShelfChange) (name : List ℕ) (limit : ℕ) (bytes : List ℕ) : Type 0 where
@@ -33,6 +34,22 @@ AnswerStopped plan (stops.Unread file) = ⊥
 pub record Gives (plan : Plan) (result : Result (List ℕ) Stop) : Type 0 where
   pub text : IfOk result (λ text. plan ≡ Tell text)
   pub stopped : IfErr result (AnswerStopped plan)
+
+-- a plan that reads nothing comes to this ending, whatever the shelf holds and was asked for
+abbrev pub ComesAtOnce : Plan → Ending → Type 0
+ComesAtOnce plan ending =
+    (told : Option Files) (before now : ReadLog) → now ≡ before → ComesTo told plan before now ending
+
+abbrev pub EndStopped : Plan → Stop → Type 0
+EndStopped plan (stops.Refused line) = ComesAtOnce plan (Refusal line)
+EndStopped plan stops.Words = ⊥
+EndStopped plan stops.Memory = Unit {0}
+EndStopped plan (stops.Unread file) = ⊥
+
+-- an answer that reads nothing is one to which the plan comes
+pub record Settles (plan : Plan) (result : Result (List ℕ) Stop) : Type 0 where
+  pub text : IfOk result (λ text. ComesAtOnce plan (Text text))
+  pub stopped : IfErr result (EndStopped plan)
 
 -- a command of this plan ended so
 abbrev pub Stopped : ShelfChange → Plan → Stop → Type 0

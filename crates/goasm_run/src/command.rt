@@ -10,6 +10,8 @@ pub enum Command {
     Bytes,
     /// `expand LIST`
     Expand,
+    /// `listing TARGET LIST`
+    Listing,
 }
 
 impl Command {
@@ -26,6 +28,9 @@ impl Command {
         }
         if word == b"expand".as_slice() {
             return Some(Command::Expand);
+        }
+        if word == b"listing".as_slice() {
+            return Some(Command::Listing);
         }
         None
     }

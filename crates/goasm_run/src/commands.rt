@@ -2,4 +2,5 @@
 
 pub mod bytes;
 pub mod expand;
+pub mod listing;
 pub mod lookup;

@@ -2,6 +2,7 @@
 #![tactic(auto)]
 
 mod architecture;
+mod build;
 #[cfg(test)]
 mod bytes_tests;
 mod command;
@@ -11,6 +12,8 @@ mod expand_tests;
 mod limits;
 mod lines;
 mod list;
+#[cfg(test)]
+mod listing_tests;
 mod part;
 mod parts;
 mod program;

@@ -1,5 +1,5 @@
 -- Fronts of what is appended.
-use Rattle.std.proofs.Common.{◌≡◌, ℕ, List, [], ◌∷◌, ◌++◌, length, Result, Ok, Err, OnErr, refl, ◌∙◌}
+use Rattle.std.proofs.Common.{◌≡◌, ℕ, List, ◌++◌, length, Result, Ok, Err, OnErr, refl}
 use Rattle.std.proofs.Math.Seq.{take-append_seam}
 use Rattle.goasm_text.specs.Lines.{AppendsFront}
 

@@ -6,10 +6,18 @@ use Rattle.asm_lex.specs.declared.refusal.LexNo.{LexNo}
 use Rattle.asm_lex.specs.declared.refusal.LexNo.TheVariants as lexes
 use Rattle.asm_macro.specs.declared.refusal.MacroNo.{MacroNo}
 use Rattle.asm_macro.specs.declared.refusal.MacroNo.TheVariants as macros
+use Rattle.asm_parse.specs.declared.parse_no.ParseNo.{ParseNo}
+use Rattle.asm_parse.specs.declared.parse_no.ParseNo.TheVariants as parses
+use Rattle.asm_target.specs.declared.select_no.SelectNo.{SelectNo}
+use Rattle.asm_target.specs.declared.select_no.SelectNo.TheVariants as selects
+use Rattle.branch_size.specs.declared.size_no.SizeNo.{SizeNo}
+use Rattle.branch_size.specs.declared.size_no.SizeNo.TheVariants as sizes
+use Rattle.obj_rewrite.specs.declared.rewrite_no.RewriteNo.{RewriteNo}
+use Rattle.obj_rewrite.specs.declared.rewrite_no.RewriteNo.TheVariants as rewrites
 use Rattle.pclntab.specs.declared.fault.TableNo.{TableNo}
 use Rattle.pclntab.specs.declared.fault.TableNo.TheVariants.{TB1, TB2, TB3, TB4, TB5, TB6}
 use Rattle.goasm_text.specs.declared.refusal.Refusal.{Refusal}
-use Rattle.goasm_text.specs.declared.refusal.Refusal.TheVariants.{Lex, Macro, Table}
+use Rattle.goasm_text.specs.declared.refusal.Refusal.TheVariants.{Lex, Macro, Parse, Rewrite, Size, Table}
 
 abbrev pub newline : List ℕ
 newline = 10 ∷ []
@@ -49,6 +57,43 @@ macro_cause (macros.M6 at) = Some (codes "M6", at)
 macro_cause (macros.M7 at) = Some (codes "M7", at)
 macro_cause macros.Memory = None
 
+-- why tokens say no unit
+abbrev pub parse_cause : ParseNo → Option (List ℕ × Pos)
+parse_cause (parses.P1 at) = Some (codes "P1", at)
+parse_cause (parses.P2 at) = Some (codes "P2", at)
+parse_cause (parses.P3 at) = Some (codes "P3", at)
+parse_cause (parses.P4 at) = Some (codes "P4", at)
+parse_cause (parses.P5 at) = Some (codes "P5", at)
+parse_cause (parses.P6 at) = Some (codes "P6", at)
+parse_cause (parses.P7 at) = Some (codes "P7", at)
+parse_cause (parses.P8 at) = Some (codes "P8", at)
+parse_cause (parses.P9 at) = Some (codes "P9", at)
+parse_cause (parses.P10 at) = Some (codes "P10", at)
+parse_cause parses.Memory = None
+
+-- `CODE NUMBER`
+abbrev pub with_number : List ℕ → ℕ → List ℕ
+with_number code number = code ++ codes " " ++ decimal_text (pos number)
+
+-- why a statement has no instructions
+abbrev pub select_cause : Pos → SelectNo → Option (List ℕ × Pos)
+select_cause at selects.S1 = Some (codes "S1", at)
+select_cause at selects.S2 = Some (codes "S2", at)
+select_cause at selects.S3 = Some (codes "S3", at)
+select_cause at selects.S4 = Some (codes "S4", at)
+select_cause at selects.Memory = None
+
+-- why a function has none: its frame would have so many bytes, or one of its statements has none
+abbrev pub rewrite_cause : RewriteNo → Option (List ℕ × Pos)
+rewrite_cause (rewrites.RW1 at total) = Some (with_number (codes "RW1") total, at)
+rewrite_cause (rewrites.Select at why) = select_cause at why
+rewrite_cause rewrites.Memory = None
+
+-- why instructions have no sizes: a branch is so far from its goal
+abbrev pub size_cause : SizeNo → Option (List ℕ × Pos)
+size_cause (sizes.B1 at distance) = Some (with_number (codes "B1") distance, at)
+size_cause sizes.Memory = None
+
 -- the line of a code at its place; where there is none, there is no line
 abbrev pub cause_line : List (List ℕ) → Option (List ℕ × Pos) → List ℕ
 cause_line files (Some cause) = place_line files cause.1 cause.0
@@ -80,6 +125,9 @@ table_line name fault =
 abbrev pub HasCause : Refusal → Type 0
 HasCause (Lex why) = IsSome (lex_cause why)
 HasCause (Macro why) = IsSome (macro_cause why)
+HasCause (Parse why) = IsSome (parse_cause why)
+HasCause (Rewrite why) = IsSome (rewrite_cause why)
+HasCause (Size why) = IsSome (size_cause why)
 HasCause (Table why) = Unit {0}
 
 -- the place of a cause, if it has one, is in a file that has a name
@@ -90,10 +138,16 @@ IsNamed files cause = IfSome cause (λ cause. cause.1.file < length files)
 abbrev pub HasName : List (List ℕ) → Refusal → Type 0
 HasName files (Lex why) = IsNamed files (lex_cause why)
 HasName files (Macro why) = IsNamed files (macro_cause why)
+HasName files (Parse why) = IsNamed files (parse_cause why)
+HasName files (Rewrite why) = IsNamed files (rewrite_cause why)
+HasName files (Size why) = IsNamed files (size_cause why)
 HasName files (Table why) = 0 < length files
 
 -- the line of a refusal over these names of files; a table is the first of them
 abbrev pub line_of : Refusal → List (List ℕ) → List ℕ
 line_of (Lex why) files = cause_line files (lex_cause why)
 line_of (Macro why) files = cause_line files (macro_cause why)
+line_of (Parse why) files = cause_line files (parse_cause why)
+line_of (Rewrite why) files = cause_line files (rewrite_cause why)
+line_of (Size why) files = cause_line files (size_cause why)
 line_of (Table why) files = table_line (name_in files 0) why

@@ -2,7 +2,7 @@
 ghost use Rattle.std.specs.Prelude.{◌≡◌, pos, ◌++◌, codes, IfOk, OnOk, OnErr};
 ghost use Rattle.goasm_base.specs.Numbers.{decimal_text};
 ghost use Rattle.goasm_text.specs.Lines as spec;
-ghost use Rattle.goasm_text.specs.Lines.{AppendsFront, place_text, place_line, newline};
+ghost use Rattle.goasm_text.specs.Lines.{AppendsFront, place_text, place_line, with_number, newline};
 
 use goasm_base::{Bytes, Memory, Name, Pos, Text};
 use std::alloc::Global;
@@ -36,6 +36,26 @@ pub fn at_place(alloc: Global, files: &[Name], at: Pos, code: &[u8]) -> Result<B
     push_place(&mut line, files, at)?;
     line.push(b": ")?;
     line.push(code)?;
+    line.push(b"\n")?;
+    Ok(line.finish())
+}
+
+/// `FILE:LINE: CODE NUMBER`
+pub fn at_place_with(
+    alloc: Global,
+    files: &[Name],
+    at: Pos,
+    code: &[u8],
+    number: u64,
+) -> Result<Bytes, Memory>
+    ensures { IfOk result (λ line. line ≡ place_line files.now at (with_number code.now number)) }
+{
+    let mut line = Text::new(alloc);
+    push_place(&mut line, files, at)?;
+    line.push(b": ")?;
+    line.push(code)?;
+    line.push(b" ")?;
+    line.push_unsigned(number)?;
     line.push(b"\n")?;
     Ok(line.finish())
 }

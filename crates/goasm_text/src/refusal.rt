@@ -1,5 +1,8 @@
 use asm_lex::LexNo;
 use asm_macro::MacroNo;
+use asm_parse::ParseNo;
+use branch_size::SizeNo;
+use obj_rewrite::RewriteNo;
 use pclntab::TableNo;
 
 /// Why a reading call answered no value.
@@ -9,6 +12,12 @@ pub enum Refusal {
     Lex(LexNo),
     /// Sources have no expansion.
     Macro(MacroNo),
+    /// Tokens say no unit.
+    Parse(ParseNo),
+    /// A function has no instructions.
+    Rewrite(RewriteNo),
+    /// Instructions have no sizes.
+    Size(SizeNo),
     /// Bytes are no function table.
     Table(TableNo),
 }

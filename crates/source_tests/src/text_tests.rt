@@ -3,8 +3,12 @@ ghost use Rattle.goasm_text.specs.Lines.{HasCause, HasName};
 
 use asm_lex::LexNo;
 use asm_macro::MacroNo;
+use asm_parse::ParseNo;
+use asm_target::SelectNo;
+use branch_size::SizeNo;
 use goasm_base::{Memory, Name, Pos, Text};
 use goasm_text::{Refusal, line_of, push_place};
+use obj_rewrite::RewriteNo;
 use pclntab::TableNo;
 use std::alloc::Global;
 use std::process::Abort;
@@ -126,6 +130,52 @@ fn an_expansion_is_told_by_its_line(rt: HostRuntime) -> Result<(), Fail> {
         &files,
         &Refusal::Macro(MacroNo::M7(at(1, 9))),
         b"m.s:9: M7\n",
+    )
+}
+
+#[test]
+fn statements_are_told_by_their_line(rt: HostRuntime) -> Result<(), Fail> {
+    let alloc = rt.alloc();
+    let files = three_names(alloc)?;
+    for (no, want) in [
+        (ParseNo::P1(at(1, 4)), b"m.s:4: P1\n".as_slice()),
+        (ParseNo::P2(at(2, 1)), b"y.s:1: P2\n"),
+        (ParseNo::P3(at(1, 30)), b"m.s:30: P3\n"),
+        (ParseNo::P4(at(1, 5)), b"m.s:5: P4\n"),
+        (ParseNo::P5(at(1, 6)), b"m.s:6: P5\n"),
+        (ParseNo::P6(at(1, 7)), b"m.s:7: P6\n"),
+        (ParseNo::P7(at(2, 8)), b"y.s:8: P7\n"),
+        (ParseNo::P8(at(1, 9)), b"m.s:9: P8\n"),
+        (ParseNo::P9(at(1, 1)), b"m.s:1: P9\n"),
+        (ParseNo::P10(at(1, 2)), b"m.s:2: P10\n"),
+    ] {
+        expect(&rt, alloc, &files, &Refusal::Parse(no), want)?;
+    }
+    Ok(())
+}
+
+#[test]
+fn functions_without_instructions_are_told_by_their_line(rt: HostRuntime) -> Result<(), Fail> {
+    let alloc = rt.alloc();
+    let files = three_names(alloc)?;
+    for (no, want) in [
+        (
+            RewriteNo::RW1(at(1, 2), 1_048_584),
+            b"m.s:2: RW1 1048584\n".as_slice(),
+        ),
+        (RewriteNo::Select(at(1, 3), SelectNo::S1), b"m.s:3: S1\n"),
+        (RewriteNo::Select(at(2, 4), SelectNo::S2), b"y.s:4: S2\n"),
+        (RewriteNo::Select(at(1, 5), SelectNo::S3), b"m.s:5: S3\n"),
+        (RewriteNo::Select(at(1, 6), SelectNo::S4), b"m.s:6: S4\n"),
+    ] {
+        expect(&rt, alloc, &files, &Refusal::Rewrite(no), want)?;
+    }
+    expect(
+        &rt,
+        alloc,
+        &files,
+        &Refusal::Size(SizeNo::B1(at(1, 12), u64::MAX)),
+        b"m.s:12: B1 18446744073709551615\n",
     )
 }
 

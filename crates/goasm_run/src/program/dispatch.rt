@@ -6,6 +6,7 @@ use crate::architecture::Architecture;
 use crate::command::Command;
 use crate::commands::bytes::bytes;
 use crate::commands::expand::expand;
+use crate::commands::listing::listing;
 use crate::commands::lookup::lookup;
 use crate::stop::Stop;
 use crate::words::Words;
@@ -39,7 +40,7 @@ fn one_word<F: Shelf>(
 {
     match command {
         Some(Command::Expand) => expand(alloc, shelf, first.as_slice()),
-        Some(Command::Lookup | Command::Bytes) | None => Err(Stop::Words),
+        Some(Command::Lookup | Command::Bytes | Command::Listing) | None => Err(Stop::Words),
     }
 }
 
@@ -59,6 +60,10 @@ fn two_words<F: Shelf>(
         },
         Some(Command::Bytes) => match Architecture::named(first.as_slice()) {
             Some(architecture) => bytes(alloc, shelf, architecture, second.as_slice()),
+            None => Err(Stop::Words),
+        },
+        Some(Command::Listing) => match Architecture::named(first.as_slice()) {
+            Some(architecture) => listing(alloc, shelf, architecture, second.as_slice()),
             None => Err(Stop::Words),
         },
         Some(Command::Expand) | None => Err(Stop::Words),

@@ -2,12 +2,14 @@ ghost use Rattle.std.specs.Prelude.{◌≡◌, ◌≢◌, ◌⊎◌, ℕ, List, 
 ghost use Rattle.goasm_base.specs.Shelf.{Files};
 ghost use Rattle.goasm_base.specs.Sink.{with_more};
 ghost use Rattle.goasm_run.specs.Changes.{shelf_change, sink_change, FailsToTake};
-ghost use Rattle.goasm_run.specs.Plan.{Malformed, Text, Refusal, EndsIn, StopsAt, MakesReads, ending_of};
+ghost use Rattle.goasm_run.specs.Endings.{Text, Refusal};
+ghost use Rattle.goasm_run.specs.Plan.{Malformed, EndsIn, StopsAt, MakesReads, EndsOver};
 ghost use Rattle.goasm_run.specs.Commands.{plan_of};
 ghost use Rattle.goasm_run.specs.Lines.{words_line, memory_line, unread_line};
 ghost use Rattle.goasm_run.specs.Statuses.{OutFailed, ErrFailed, KeptBack, Told, IsWritten};
 
 use crate::lines;
+use crate::program::answers::one_answer;
 use crate::program::dispatch::answer;
 use crate::stop::Stop;
 use crate::words::Words;
@@ -61,17 +63,18 @@ pub fn goasm_main<F: Shelf, O: Sink, E: Sink>(
     // When a status comes, over a shelf that tells its files.
     ensures malformed { plan_of words.now ≡ Malformed → (result ≡ 2) ⊎ (result ≡ 5) }
     ensures succeeds { (files : Files) (text : List ℕ) → F.holds shelf.old ≡ Some files
-        → ending_of files (plan_of words.now) ≡ Some (Text text)
+        → EndsOver files (plan_of words.now) (Text text)
         → ((result ≡ 0) × (O.took out.new ≡ with_more (O.took out.old) text))
         ⊎ ((result ≡ 5) × FailsToTake (sink_change O.took O.faults out.old out.new) text)
         ⊎ KeptBack result (shelf_change F.holds F.faults F.reads shelf.old shelf.new) (plan_of words.now)
         (sink_change O.took O.faults out.old out.new) (sink_change E.took E.faults err.old err.new) }
     ensures refuses { (files : Files) (line : List ℕ) → F.holds shelf.old ≡ Some files
-        → ending_of files (plan_of words.now) ≡ Some (Refusal line)
+        → EndsOver files (plan_of words.now) (Refusal line)
         → ((result ≡ 1) × (E.took err.new ≡ with_more (E.took err.old) line))
         ⊎ KeptBack result (shelf_change F.holds F.faults F.reads shelf.old shelf.new) (plan_of words.now)
         (sink_change O.took O.faults out.old out.new) (sink_change E.took E.faults err.old err.new) }
 {
+    one_answer();
     match answer(alloc, words, shelf) {
         Ok(text) => match out.write(text.as_slice()) {
             Ok(()) => 0,

@@ -1,0 +1,146 @@
+ghost use Rattle.std.specs.Prelude.{◌≡◌, ℕ, ◌++◌, ◌+◌, ◌<◌, ◌^◌, ◌≤◌, All, length, drop, IfOk, IfErr, Ok};
+ghost use Rattle.asm_directive.specs.LineNames.{line_names_of};
+ghost use Rattle.asm_lex.specs.Form.{AreTokens};
+ghost use Rattle.asm_macro.specs.Builds.{greatest_file, outcome_of};
+ghost use Rattle.asm_macro.specs.Places.{ArePlaced, file_count};
+ghost use Rattle.goasm_list.specs.Rules as list;
+ghost use Rattle.goasm_run.specs.declared.stop.Stop.TheVariants as stops;
+ghost use Rattle.goasm_run.specs.Builds.{over_outcome, over_sources, build_answer, build_lines, build_plan};
+ghost use Rattle.goasm_run.specs.BuildsMade.{Makes, Builds};
+ghost use Rattle.goasm_run.specs.Changes.{shelf_change};
+ghost use Rattle.goasm_run.specs.Lists.{list_answer};
+ghost use Rattle.goasm_run.specs.Sources.{seen};
+ghost use Rattle.goasm_run.specs.SourcesLexed.{AreNumbered, AreLexed};
+
+use crate::limits;
+use crate::list::lines_of;
+use crate::part::Part;
+use crate::parts::read_parts;
+use crate::read::read_named;
+use crate::sources::{Sources, file_names, lexed};
+use crate::stop::Stop;
+use asm_directive::line_names;
+use asm_lex::Tokens;
+use asm_macro::{MacroNo, expand_named};
+use goasm_base::{Name, Shelf};
+use goasm_list::ListLine;
+use goasm_text::{Refusal, line_of};
+use std::alloc::Global;
+
+/// A build after macros, inclusions and conditions.
+#[derive(Drop)]
+pub struct Build {
+    /// The names of its files, by their numbers: those of `#line` directives come last.
+    pub files: Vec<Name>,
+    /// The tokens of each source.
+    pub sources: Vec<Tokens>,
+}
+
+/// The build of a list: each file that the list names is read, all are lexed, and then all are expanded.
+pub fn built<F: Shelf>(alloc: Global, shelf: &mut F, list: &[u8]) -> Result<Build, Stop>
+    ensures { Builds (shelf_change F.holds F.faults F.reads shelf.old shelf.new) (λ judge. build_plan judge list.now) result }
+{
+    let bytes = read_named(alloc, shelf, list, limits::LIST)?;
+    over_list(alloc, shelf, list, bytes.as_slice())
+}
+
+// The build over the bytes of the list.
+fn over_list<F: Shelf>(
+    alloc: Global,
+    shelf: &mut F,
+    name: &[u8],
+    bytes: &[u8],
+) -> Result<Build, Stop>
+    ensures { Builds (shelf_change F.holds F.faults F.reads shelf.old shelf.new) (λ judge. list_answer name.now (build_lines judge name.now) bytes.now) result }
+{
+    let list = lines_of(alloc, name, bytes)?;
+    over_lines(alloc, shelf, name, list.lines.as_slice())
+}
+
+// The build over the lines of the list.
+fn over_lines<F: Shelf>(
+    alloc: Global,
+    shelf: &mut F,
+    name: &[u8],
+    lines: &[ListLine],
+) -> Result<Build, Stop>
+    requires { list.file_count lines.now ≤ 1000 }
+    ensures { Builds (shelf_change F.holds F.faults F.reads shelf.old shelf.new) (λ judge. build_lines judge name.now lines.now) result }
+{
+    let parts = read_parts(alloc, shelf, lines)?;
+    over_parts(alloc, name, parts.as_slice())
+}
+
+// The build of parts that were read.
+#[tactic(auto, unfolding(crate::specs::Builds::build_answer, crate::specs::Sources::file_names))]
+fn over_parts(alloc: Global, name: &[u8], parts: &[Part]) -> Result<Build, Stop>
+    requires { AreNumbered parts.now }
+    ensures { Makes (λ judge. build_answer judge name.now parts.now) result }
+{
+    let names = file_names(alloc, name, parts)?;
+    let sources = lexed(alloc, names.as_slice(), parts)?;
+    over_tokens(alloc, names, &sources)
+}
+
+// The build of tokens. Behind the names of files come those of `#line` directives.
+#[tactic(auto, using(crate::proofs::FileLemmas::sources_formed, crate::proofs::FileLemmas::includes_formed, crate::proofs::FileLemmas::defines_formed, crate::proofs::FileLemmas::are_placed))]
+fn over_tokens(alloc: Global, names: Vec<Name>, found: &Sources) -> Result<Build, Stop>
+    requires lexed { AreLexed (length names.items) (seen found.now) }
+    requires names { length names.items ≤ 1001 }
+    requires named { 0 < length names.items }
+    requires few { length found.now.sources.items + length found.now.includes.items ≤ 1000 }
+    ensures { Makes (λ judge. over_sources judge names.items (Ok (seen found.now))) result }
+{
+    let more = line_names(alloc, found.sources.as_slice(), found.includes.as_slice())?;
+    let count = names.len();
+    let files = with_more(names, more)?;
+    over_files(alloc, files, count, found)
+}
+
+// The build of tokens over the names of its files, of which those of `#line` directives stand behind this many.
+#[tactic(auto, using(crate::proofs::FileLemmas::macro_named, crate::proofs::FileLemmas::macro_caused, crate::proofs::FileLemmas::macro_fault, crate::proofs::FileLemmas::are_expanded))]
+fn over_files(alloc: Global, files: Vec<Name>, count: usize, found: &Sources) -> Result<Build, Stop>
+    requires count { count ≤ length files.items }
+    requires lines { drop count files.items ≡ line_names_of found.now.sources.items found.now.includes.items }
+    requires sources { All AreTokens found.now.sources.items }
+    requires includes { All (λ include. AreTokens include.1) found.now.includes.items }
+    requires defines { All (λ define. AreTokens define.1) found.now.defines.items }
+    requires placed { ArePlaced found.now.sources.items found.now.includes.items found.now.defines.items }
+    requires room { greatest_file found.now.sources.items found.now.includes.items found.now.defines.items
+        + length (line_names_of found.now.sources.items found.now.includes.items) < 2 ^ 32 }
+    requires named { file_count found.now.sources.items found.now.includes.items found.now.defines.items ≤ length files.items }
+    ensures { Makes (λ judge. over_outcome judge files.items
+        (outcome_of (seen found.now).sources (seen found.now).includes (seen found.now).defines)) result }
+{
+    match expand_named(
+        alloc,
+        found.sources.as_slice(),
+        found.includes.as_slice(),
+        found.defines.as_slice(),
+        names_behind(files.as_slice(), count),
+    ) {
+        Ok(sources) => Ok(Build { files, sources }),
+        Err(MacroNo::Memory) => Err(Stop::Memory),
+        Err(no) => Err(Stop::Refused(line_of(alloc, &Refusal::Macro(no), files.as_slice())?)),
+    }
+}
+
+// The names behind this many others.
+fn names_behind(files: &[Name], count: usize) -> &[Name]
+    requires { count ≤ length files.now }
+    ensures { result.now ≡ drop count files.now }
+{
+    &files[count..]
+}
+
+// The names with more behind them.
+fn with_more(names: Vec<Name>, more: Vec<Name>) -> Result<Vec<Name>, Stop>
+    ensures names { IfOk result (λ all. all.items ≡ names.items ++ more.items) }
+    ensures memory { IfErr result (λ stop. stop ≡ stops.Memory) }
+{
+    let mut all = names;
+    for name in more {
+        all.push(name)?;
+    }
+    Ok(all)
+}
