@@ -5,3 +5,4 @@ pub mod GoingLemmas
 pub mod CallLemmas
 pub mod OutLemmas
 pub mod RunLemmas
+pub mod SampleLemmas
