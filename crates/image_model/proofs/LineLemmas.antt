@@ -125,7 +125,7 @@ module _ (text : Text) (code : Code) (row : IsInRow code) (told : IsTold text co
     change = by_move (depth_view f) k (link_is ∙ none) ∙ ap moved_by (flow_is k inside);
     told =
         ap (λ (flow : Flow). is_other flow.sp) (sym (flow_is k inside))
-        ∙ if_off _ _ _ (link_is ∙ none) (rules.f2 f sound k inside);
+        ∙ if_off _ _ _ (link_is ∙ none) (rules.keeps f sound k inside).f2;
   }
 
   -- behind an instruction that may be passed, the next one stands at the depth behind it

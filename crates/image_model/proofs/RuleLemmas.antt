@@ -5,7 +5,8 @@ use Rattle.std.specs.Ordering.{int_eq}
 use Rattle.std.specs.Prelude.{◌+ℤ◌}
 use Rattle.asm_target.specs.DepthChange.{depth_change}
 use Rattle.asm_target.specs.FlowFunction.{FlowFunction, depth_view, outgoing}
-use Rattle.asm_target.specs.FlowRules.{IsFlowSound, breaks, breaks_f1, breaks_f2, breaks_f3, breaks_f4, breaks_f6, breaks_f7, breaks_f8, breaks_f9, can_follow, differs}
+use Rattle.asm_target.specs.FlowRules.{IsFlowSound, breaks, can_follow, differs}
+use Rattle.asm_target.proofs.CleanLemmas.{Unbroken}
 use Rattle.image_model.proofs.PositionLemmas.{none_under}
 
 pub unless_not : (one other : Bool) → one ≡ true → (one && not other) ≡ false → other ≡ true
@@ -26,37 +27,20 @@ not_off true off = refl
 not_off false off = sym off
 
 module _ (f : FlowFunction) (sound : IsFlowSound f) (k : ℕ) (inside : k < f.count) where
-  pub f1 : breaks_f1 f k ≡ false
+  -- each rule holds
+  pub keeps : Unbroken f k
   unfolding breaks
-  f1 = sound k 1 inside (omega arith)
-
-  pub f2 : breaks_f2 f k ≡ false
-  unfolding breaks
-  f2 = sound k 2 inside (omega arith)
-
-  pub f3 : breaks_f3 f k ≡ false
-  unfolding breaks
-  f3 = sound k 3 inside (omega arith)
-
-  pub f4 : breaks_f4 f k ≡ false
-  unfolding breaks
-  f4 = sound k 4 inside (omega arith)
-
-  pub f6 : breaks_f6 f k ≡ false
-  unfolding breaks
-  f6 = sound k 6 inside (omega arith)
-
-  pub f7 : breaks_f7 f k ≡ false
-  unfolding breaks
-  f7 = sound k 7 inside (omega arith)
-
-  pub f8 : breaks_f8 f k ≡ false
-  unfolding breaks
-  f8 = sound k 8 inside (omega arith)
-
-  pub f9 : breaks_f9 f k ≡ false
-  unfolding breaks
-  f9 = sound k 9 inside (omega arith)
+  keeps = record {
+    f1 = sound k 1 inside (omega arith);
+    f2 = sound k 2 inside (omega arith);
+    f3 = sound k 3 inside (omega arith);
+    f4 = sound k 4 inside (omega arith);
+    f5 = sound k 5 inside (omega arith);
+    f6 = sound k 6 inside (omega arith);
+    f7 = sound k 7 inside (omega arith);
+    f8 = sound k 8 inside (omega arith);
+    f9 = sound k 9 inside (omega arith);
+  }
 
   pub out : outgoing f k ≡ pos (f.depth k) +ℤ depth_change (depth_view f) k
   unfolding outgoing
@@ -66,11 +50,11 @@ module _ (f : FlowFunction) (sound : IsFlowSound f) (k : ℕ) (inside : k < f.co
   pub followed : (j : ℕ) → j < f.count → can_follow f k j ≡ true → pos (f.depth j) ≡ pos (f.depth k) +ℤ depth_change (depth_view f) k
   followed j less follows =
       let same : int_eq (outgoing f k) (pos (f.depth j)) ≡ true =
-      unless_not (can_follow f k j) (int_eq (outgoing f k) (pos (f.depth j))) follows (none_under (differs f k) f.count j f1 less) in
+      unless_not (can_follow f k j) (int_eq (outgoing f k) (pos (f.depth j))) follows (none_under (differs f k) f.count j keeps.f1 less) in
       sym ((Decides-int_eq (outgoing f k) (pos (f.depth j))).0 same) ∙ out
 
 -- the function's first instruction stands at depth 0
 pub first_depth : (f : FlowFunction) → IsFlowSound f → 0 < f.count → f.depth 0 ≡ 0
 first_depth f sound some =
-    let rest = (or_off _ _ (or_off _ _ (f9 f sound 0 some)).1).1 in
+    let rest = (or_off _ _ (or_off _ _ (keeps f sound 0 some).f9).1).1 in
     (Decides-eqb (f.depth 0) 0).0 (not_off (f.depth 0 == 0) rest)

@@ -46,10 +46,10 @@ module _ (text : Text) (code : Code) (row : IsInRow code) (told : IsTold text co
       let same : f.flow k ≡ flow_in (joined text) (line_of code k) = lines.flow_is text code row told machine sound k inside in
       let goes : next_at f k ≡ (code.placed k).effect.next = lines.next_is text code row told machine sound k inside in
       let framed : is_of_frame (role_at f k) ≡ false = ap is_of_frame plain in
-      let two = if_on _ _ _ on (rules.f2 f sound k inside) in
+      let two = if_on _ _ _ on (rules.keeps f sound k inside).f2 in
       let kept : is_kept (f.flow k).sp ≡ true = not_off (is_kept (f.flow k).sp) (left_off _ _ framed two) in
-      let seven = and_off _ _ on (rules.f7 f sound k inside) in
-      let eight = or_off _ _ (and_off _ _ on (rules.f8 f sound k inside)) in
+      let seven = and_off _ _ on (rules.keeps f sound k inside).f7 in
+      let eight = or_off _ _ (and_off _ _ on (rules.keeps f sound k inside).f8) in
       let none = no_growth k plain in
       let saves : is_saving (role_at f k) ≡ false = ap is_saving plain in
       record {
@@ -93,7 +93,7 @@ module _ (text : Text) (code : Code) (row : IsInRow code) (told : IsTold text co
       let s : ℕ = start_at f k in
       let low = positions.start_low f machine.lawful k in
       let on = has_some k inside (Saving count total) is refl in
-      let eight = (or_off _ _ (or_off _ _ (and_off _ _ on (rules.f8 f sound s (omega arith)))).1).1 in
+      let eight = (or_off _ _ (or_off _ _ (and_off _ _ on (rules.keeps f sound s (omega arith)).f8)).1).1 in
       let back : start_at f s ≡ s = positions.start_back f machine.lawful k in
       let saves : is_saving (role_at f s) ≡ true = ap (λ (p : ℕ). is_saving (sequence_at f p)) back ∙ ap is_saving is in
       let first : (start_at f s == s) ≡ true = (Decides-eqb (start_at f s) s).1 back in

@@ -96,7 +96,7 @@ module _ (text : Text) (code : Code) (row : IsInRow code) (told : IsTold text co
   behind k inside passes =
       let low = positions.start_low f machine.lawful k in
       let pass : can_pass (next_at f k) ≡ true = ap can_pass (lines.next_is text code row told machine sound k inside) ∙ passes in
-      let unended : (suc k == f.count) ≡ false = and_off _ _ pass (rules.f6 f sound k inside) in
+      let unended : (suc k == f.count) ≡ false = and_off _ _ pass (rules.keeps f sound k inside).f6 in
       let less : suc k < f.count = grind (arith, nat_tests) in (
         line_of code (suc k),
         subst (λ (at : ℕ). (joined text).line_at at ≡ Some (line_of code (suc k))) (row.follows k less) (here.line (suc k) less),
@@ -130,7 +130,7 @@ module _ (text : Text) (code : Code) (row : IsInRow code) (told : IsTold text co
       → (other : Line) × ((joined text).line_at goal ≡ Some other) × Lands (line_of code k) other
   jumps k inside goal goes within unentered =
       let on = jump_is k goal inside goes in
-      let stray : is_stray f goal ≡ false = sym (ap (is_among (is_stray f)) on) ∙ rules.f4 f sound k inside in
+      let stray : is_stray f goal ≡ false = sym (ap (is_among (is_stray f)) on) ∙ (rules.keeps f sound k inside).f4 in
       let lies : is_within f.text goal ≡ true = ap (λ (range : Range). is_within range goal) told.range ∙ within in
       let one : (is_start f goal || f.is_entry goal) ≡ true = unless_not _ _ lies stray in
       let starts : is_start f goal ≡ true = or_left _ _ one (told.is_entry goal ∙ unentered) in
@@ -150,7 +150,7 @@ module _ (text : Text) (code : Code) (row : IsInRow code) (told : IsTold text co
       )
 
   left : (k : ℕ) → k < f.count → is_leaving f (next_at f k) ≡ true → f.depth k ≡ 0
-  left k inside leaves = (Decides-eqb (f.depth k) 0).0 (unless_not _ _ leaves (rules.f3 f sound k inside))
+  left k inside leaves = (Decides-eqb (f.depth k) 0).0 (unless_not _ _ leaves (rules.keeps f sound k inside).f3)
 
   jumps_out : (k goal : ℕ) → k < f.count → jump_goal (next_at f k) ≡ Some goal → is_within f.own goal ≡ false → f.depth k ≡ 0
   jumps_out k goal inside on out =
