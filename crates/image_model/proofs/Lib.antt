@@ -1,0 +1,11 @@
+pub mod PositionLemmas
+pub mod RuleLemmas
+pub mod ActionLemmas
+pub mod LineLemmas
+pub mod SuitLemmas
+pub mod WayLemmas
+pub mod FindLemmas
+pub mod TextLemmas
+pub mod ActsLemmas
+pub mod ListedLemmas
+pub mod SampleLemmas
