@@ -68,6 +68,7 @@ fn over_sources(
 }
 
 // Whether a name is a word of amd64.
+#[tactic(auto, using(crate::proofs::WordLemmas::amd64_word))]
 fn is_amd64_word(name: &[u8]) -> bool
     ensures { result ≡ speaks spoken.Amd64 name.now }
 {
