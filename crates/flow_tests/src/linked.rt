@@ -55,14 +55,14 @@ fn near(distance: i8) -> Instr {
     }
 }
 
-fn jump(distance: i32) -> Instr {
+fn jump(distance: i16) -> Instr {
     Instr::Far {
         call: false,
         distance,
     }
 }
 
-fn call(distance: i32) -> Instr {
+fn call(distance: i16) -> Instr {
     Instr::Far {
         call: true,
         distance,
