@@ -42,6 +42,61 @@ fn a_function_tells_its_parts(rt: HostRuntime) -> Result<(), Fail> {
     Ok(())
 }
 
+#[test]
+fn a_function_tells_the_values_of_its_stretches(rt: HostRuntime) -> Result<(), Fail> {
+    let Ok(table) = Table::read(&CAS) else {
+        return Err(Fail::from("no table"));
+    };
+    assert_eq!(rt; table.quantum(), 1);
+    assert_eq!(rt; table.text_start(), 0x40_0000);
+    let func = table.find(0x40_0011).ok_or("no function")?;
+    let ends = [5, 9, 13, 17, 22, 23];
+    let depths = func.depths_over(rt.alloc(), &ends)?.ok_or("no depths")?;
+    assert_eq!(rt; depths.as_slice(), [0; 6].as_slice());
+    let lines = func.lines_over(rt.alloc(), &ends)?.ok_or("no lines")?;
+    assert_eq!(rt; lines.as_slice(), [3, 4, 5, 7, 8, 9].as_slice());
+    let files = func.files_over(rt.alloc(), &ends)?.ok_or("no files")?;
+    assert_eq!(rt; files.as_slice(), [0; 6].as_slice());
+    // The lines change within the only stretch, and the tables end before the padding does.
+    assert!(rt; func.lines_over(rt.alloc(), &[23])?.is_none());
+    assert!(rt; func.depths_over(rt.alloc(), &[23, 32])?.is_none());
+    assert!(rt; func.files_over(rt.alloc(), &[22])?.is_none());
+    Ok(())
+}
+
+// Tests whether a number stands for a file of the first function.
+fn expect_file<R: Abort>(rt: &R, bytes: &[u8; 184], number: i32, want: bool) {
+    match Table::read(bytes) {
+        Ok(table) => {
+            assert!(rt; table.count() > 0);
+            assert_eq!(rt; table.has_file(0, number), want, "{number}");
+        }
+        Err(no) => assert!(rt; false, "refused by {no}"),
+    }
+}
+
+#[test]
+fn a_number_stands_for_a_file_within_the_bytes(rt: HostRuntime) {
+    // The words of the numbers 0 and 1 name `cas.s`, that of 2 lies in the name's letters, and those behind lie outside.
+    for (number, want) in [
+        (0, true),
+        (1, true),
+        (2, false),
+        (-1, false),
+        (i32::MIN, false),
+        (23, false),
+        (i32::MAX, false),
+    ] {
+        expect_file(&rt, &CAS, number, want);
+    }
+    // A name that begins at the last byte of all, a zero byte, and one behind it.
+    let mut bytes = CAS;
+    bytes[88] = 87;
+    expect_file(&rt, &bytes, 0, true);
+    bytes[88] = 88;
+    expect_file(&rt, &bytes, 0, false);
+}
+
 // Tests that a table is refused, and why.
 fn expect_no<R: Abort>(rt: &R, bytes: &[u8; 184], len: usize, want: TableNo) {
     assert!(rt; len <= 184);

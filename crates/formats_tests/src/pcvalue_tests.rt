@@ -1,4 +1,4 @@
-use pcvalue::{Answer, Run, encode, is_pc_table, value_at};
+use pcvalue::{Answer, Run, encode, is_pc_table, value_at, values_are_settled, values_over};
 use std::test::Fail;
 
 // No table at 0, then the depths and the lines of a function of 23 bytes.
@@ -91,5 +91,45 @@ fn long_numbers_and_quanta_are_written(rt: HostRuntime) -> Result<(), Fail> {
         bytes.as_slice(),
         [2, 1, 3, 3, 0xD4, 0x0F, 0xFC, 0x07, 0].as_slice()
     );
+    Ok(())
+}
+
+#[test]
+fn stretches_have_the_values_of_their_runs(rt: HostRuntime) -> Result<(), Fail> {
+    values_are_settled();
+    let ends = [3, 5, 9, 13, 17, 20, 22, 23];
+    let lines = values_over(rt.alloc(), &TABLES, 4, 1, &ends)?.ok_or("no lines")?;
+    assert_eq!(rt; lines.as_slice(), [3, 3, 4, 5, 7, 8, 8, 9].as_slice());
+    let words = [0, 2, 1, 3, 3, 0xD4, 0x0F, 0xFC, 0x07, 0];
+    let values = values_over(rt.alloc(), &words, 1, 4, &[4, 12, 16, 4096])?.ok_or("no values")?;
+    assert_eq!(rt; values.as_slice(), [0, -2, -2, 1000].as_slice());
+    Ok(())
+}
+
+#[test]
+fn stretches_that_a_table_does_not_cover_have_no_values(rt: HostRuntime) -> Result<(), Fail> {
+    // No table is meant.
+    assert!(rt; values_over(rt.alloc(), &TABLES, 0, 1, &[23])?.is_none());
+    // A change within a stretch, a table that goes on behind the last one, and one that ends before it.
+    assert!(rt; values_over(rt.alloc(), &TABLES, 4, 1, &[5, 10, 13, 17, 22, 23])?.is_none());
+    assert!(rt; values_over(rt.alloc(), &TABLES, 4, 1, &[5, 9, 13, 17, 22])?.is_none());
+    assert!(rt; values_over(rt.alloc(), &TABLES, 4, 1, &[5, 9, 13, 17, 20])?.is_none());
+    assert!(rt; values_over(rt.alloc(), &TABLES, 4, 1, &[5, 9, 13, 17, 22, 24])?.is_none());
+    assert!(rt; values_over(rt.alloc(), &TABLES, 4, 1, &[5, 9, 13, 17, 22, 23, 24])?.is_none());
+    assert!(rt; values_over(rt.alloc(), &TABLES, 4, 1, &[])?.is_none());
+    // A table without its end.
+    assert!(rt; values_over(rt.alloc(), &[0, 2, 23], 1, 1, &[23])?.is_none());
+    Ok(())
+}
+
+#[test]
+fn a_table_in_another_form_gives_no_values(rt: HostRuntime) -> Result<(), Fail> {
+    let least = [0, 2, 23, 0];
+    assert!(rt; values_over(rt.alloc(), &least, 1, 1, &[23])?.is_some());
+    // A change, a number of quanta and an end in more bytes than they need, and a run of no length.
+    assert!(rt; values_over(rt.alloc(), &[0, 0x82, 0, 23, 0], 1, 1, &[23])?.is_none());
+    assert!(rt; values_over(rt.alloc(), &[0, 2, 0x97, 0, 0], 1, 1, &[23])?.is_none());
+    assert!(rt; values_over(rt.alloc(), &[0, 2, 23, 0x80, 0], 1, 1, &[23])?.is_none());
+    assert!(rt; values_over(rt.alloc(), &[0, 2, 0, 4, 23, 0], 1, 1, &[23])?.is_none());
     Ok(())
 }

@@ -5,6 +5,7 @@ mod SearchLemmas
 mod StockLemmas
 mod FuncLemmas
 mod LengthLemmas
+pub mod FaultLemmas
 mod ReadLemmas
 mod HeaderLemmas
 mod RowLemmas

@@ -5,6 +5,7 @@ use Rattle.goasm_base.specs.Refusals.{first_below}
 use Rattle.pcvalue.specs.declared.answer.Answer.{Answer}
 use Rattle.pcvalue.specs.declared.answer.Answer.TheVariants.{Absent, Value, Past, Bad}
 use Rattle.pcvalue.specs.Table.{value_in}
+use Rattle.pcvalue.specs.Cover.{TellsOver}
 use Rattle.pclntab.specs.Words.{byte_at, u32_at}
 use Rattle.pclntab.specs.Places.{quantum, func_count, text_start, units_start, files_start, entry_offset, args_field, depth_field, file_field, line_field, unit_field, flags_field, name_place}
 use Rattle.pclntab.specs.Texts.{text_at}
@@ -60,6 +61,23 @@ depth_at bytes index pc = answer_at bytes index (depth_field bytes index) pc
 
 abbrev pub line_at : List ℕ → ℕ → ℕ → Answer
 line_at bytes index pc = answer_at bytes index (line_field bytes index) pc
+
+-- the pc-value table that a record's field names gives these values to stretches of the function, one behind the other from
+-- its entry on, each up to its end in bytes from there
+abbrev pub FieldTellsOver : List ℕ → ℕ → List ℕ → List ℤ → Type 0
+FieldTellsOver bytes field ends values = TellsOver (pc_bytes bytes) (u32_at bytes field) (quantum bytes) ends values
+
+-- the stack depths of stretches of a function
+abbrev pub DepthsOver : List ℕ → ℕ → List ℕ → List ℤ → Type 0
+DepthsOver bytes index ends values = FieldTellsOver bytes (depth_field bytes index) ends values
+
+-- their lines
+abbrev pub LinesOver : List ℕ → ℕ → List ℕ → List ℤ → Type 0
+LinesOver bytes index ends values = FieldTellsOver bytes (line_field bytes index) ends values
+
+-- and their files, as numbers in the table of units
+abbrev pub FilesOver : List ℕ → ℕ → List ℕ → List ℤ → Type 0
+FilesOver bytes index ends values = FieldTellsOver bytes (file_field bytes index) ends values
 
 -- the name of the file with this number in the table of units: a word there is the offset of a name
 unfoldable pub file_name : List ℕ → ℕ → Option (List ℕ)

@@ -1,5 +1,6 @@
 -- What the later steps of reading a table know from the earlier ones.
-use Rattle.std.specs.Prelude.{ℕ, List, ◌^◌, ◌<◌, ◌≤◌, length}
+use Rattle.std.specs.Prelude.{ℕ, List, ◌^◌, ◌<◌, ◌≤◌, length, Option}
+use Rattle.memchr.specs.Find.{IsLastByte, is_byte}
 use Rattle.pclntab.specs.Places.{header_size, func_count}
 use Rattle.pclntab.specs.Table.{HasTables, IsTable}
 use Rattle.pclntab.specs.Func.{entry_of}
@@ -14,6 +15,11 @@ pub record IsReady (bytes : List ℕ) : Type 0 where
 pub record IsRead (bytes : List ℕ) : Type 0 where
   pub short : length bytes < 2 ^ 32
   pub table : IsTable bytes
+
+-- a table that was read, with the place of its last zero byte
+pub record IsReadTo (bytes : List ℕ) (last_zero : Option ℕ) : Type 0 where
+  pub read : IsRead bytes
+  pub last : IsLastByte (is_byte 0) bytes last_zero
 
 -- the bytes of the pc-value tables, and the quantum in which these count places
 pub record PcTablesView : Type 0 where

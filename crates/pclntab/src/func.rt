@@ -1,16 +1,18 @@
-ghost use Rattle.std.specs.Prelude.{◌≡◌, ◌≢◌, ◌<◌, ◌≤◌, ◌^◌, ◌+◌, ◌↔◌, Some, length, IsTrue};
+ghost use Rattle.std.specs.Prelude.{◌≡◌, ◌≢◌, ◌<◌, ◌≤◌, ◌^◌, ◌+◌, ◌↔◌, List, ℤ, Some, length, IsTrue, IfOk, IfSome};
 ghost use Rattle.std.specs.Option.{option_map};
 ghost use Rattle.pclntab.specs.Func as spec;
 ghost use Rattle.pclntab.specs.Places.{text_start};
 ghost use Rattle.pclntab.specs.Ready.{IsReady, IsFuncOf};
 ghost use Rattle.pclntab.specs.Table.{NamesPcTable};
-ghost use Rattle.pclntab.specs.Func.{HasPc, entry_of, end_of, name_of, args_of, flags_of, depth_at, line_at, file_at, answer_at};
+ghost use Rattle.pclntab.specs.Func.{HasPc, entry_of, end_of, name_of, args_of, flags_of, depth_at, line_at, file_at, answer_at, FieldTellsOver, DepthsOver, LinesOver, FilesOver};
+ghost use Rattle.pcvalue.specs.Cover.{Ascends};
 
 use crate::names::text_from;
 use crate::places;
 use crate::words::u32_at;
-use goasm_base::behind;
-use pcvalue::{Answer, value_at};
+use goasm_base::{Memory, behind};
+use pcvalue::{Answer, value_at, values_over};
+use std::alloc::Global;
 use std::marker::Model;
 
 /// A function of a table. Contracts see the table's bytes and the function's number, from 0 in the order of entries.
@@ -129,6 +131,65 @@ impl<'a> Func<'a> {
         }
         let unit = u32_at(bytes, places::unit_field(bytes, self.index));
         file_name(bytes, number as u64 + u64::from(unit))
+    }
+
+    /// The stack depths of stretches of the function, one behind the other from its entry on, each up to its end in bytes from
+    /// there. `None` exactly where the record names no depth table, or that isn't in its least form, ends before or behind the
+    /// last stretch, or changes within one.
+    pub fn depths_over(&self, alloc: Global, ends: &[u32]) -> Result<Option<Vec<i32>>, Memory>
+        requires rising { Ascends 0 ends.now }
+        ensures values { IfOk result (λ found. IfSome found (λ values. DepthsOver self.now.bytes self.now.index ends.now values.items)) }
+        ensures only { (values : List ℤ) → DepthsOver self.now.bytes self.now.index ends.now values
+            → IfOk result (λ found. option_map (λ v. v.items) found ≡ Some values) }
+    {
+        self.values_over(alloc, places::depth_field(self.bytes, self.index), ends)
+    }
+
+    /// The lines of stretches of the function, one behind the other from its entry on, each up to its end in bytes from
+    /// there. `None` exactly where the record names no line table, or that isn't in its least form, ends before or behind the
+    /// last stretch, or changes within one.
+    pub fn lines_over(&self, alloc: Global, ends: &[u32]) -> Result<Option<Vec<i32>>, Memory>
+        requires rising { Ascends 0 ends.now }
+        ensures values { IfOk result (λ found. IfSome found (λ values. LinesOver self.now.bytes self.now.index ends.now values.items)) }
+        ensures only { (values : List ℤ) → LinesOver self.now.bytes self.now.index ends.now values
+            → IfOk result (λ found. option_map (λ v. v.items) found ≡ Some values) }
+    {
+        self.values_over(alloc, places::line_field(self.bytes, self.index), ends)
+    }
+
+    /// The file numbers of stretches of the function, one behind the other from its entry on, each up to its end in bytes from
+    /// there. `None` exactly where the record names no file table, or that isn't in its least form, ends before or behind the
+    /// last stretch, or changes within one. `Table::has_file` says whether a number stands for a file.
+    pub fn files_over(&self, alloc: Global, ends: &[u32]) -> Result<Option<Vec<i32>>, Memory>
+        requires rising { Ascends 0 ends.now }
+        ensures values { IfOk result (λ found. IfSome found (λ values. FilesOver self.now.bytes self.now.index ends.now values.items)) }
+        ensures only { (values : List ℤ) → FilesOver self.now.bytes self.now.index ends.now values
+            → IfOk result (λ found. option_map (λ v. v.items) found ≡ Some values) }
+    {
+        self.values_over(alloc, places::file_field(self.bytes, self.index), ends)
+    }
+
+    // The values of the pc-value table that a field of the record names.
+    fn values_over(
+        &self,
+        alloc: Global,
+        field: usize,
+        ends: &[u32],
+    ) -> Result<Option<Vec<i32>>, Memory>
+        requires rising { Ascends 0 ends.now }
+        requires field { field + 4 ≤ length self.now.bytes }
+        ensures values { IfOk result (λ found. IfSome found (λ values. FieldTellsOver self.now.bytes field ends.now values.items)) }
+        ensures only { (values : List ℤ) → FieldTellsOver self.now.bytes field ends.now values
+            → IfOk result (λ found. option_map (λ v. v.items) found ≡ Some values) }
+    {
+        let bytes = self.bytes;
+        values_over(
+            alloc,
+            behind(bytes, places::pcs_start(bytes) as usize),
+            u32_at(bytes, field),
+            places::quantum(bytes),
+            ends,
+        )
     }
 
     // What the pc-value table that a field of the record names says of an address.

@@ -1,32 +1,39 @@
-ghost use Rattle.std.specs.Prelude.{◌≡◌, ℕ, ◌^◌, ◌<◌, ◌≤◌, ◌↔◌, None, length, IfOk, IfSome, IfNone, MatchResult};
+ghost use Rattle.std.specs.Prelude.{◌≡◌, ℕ, ◌^◌, ◌<◌, ◌≤◌, ◌↔◌, None, length, IsTrue, IsSome, IfOk, IfSome, IfNone, MatchResult};
 ghost use Rattle.std.specs.Option.{option_map};
-ghost use Rattle.pclntab.specs.Places.{func_count};
+ghost use Rattle.memchr.specs.Find.{IsLastByte, is_byte};
+ghost use Rattle.pclntab.specs.Words.{u32_at};
+ghost use Rattle.pclntab.specs.Places.{func_count, quantum, text_start, unit_field};
 ghost use Rattle.pclntab.specs.Table.{IsTable};
 ghost use Rattle.pclntab.specs.Faults.{Judges, table_fault};
-ghost use Rattle.pclntab.specs.Func.{HasPc, entry_of, func_at};
-ghost use Rattle.pclntab.specs.Ready.{IsBegun};
+ghost use Rattle.pclntab.specs.Func.{HasPc, entry_of, func_at, file_name, numbered_from};
+ghost use Rattle.pclntab.specs.Ready.{IsReady, IsBegun};
 
 use crate::fault::TableNo;
 use crate::func::Func;
 use crate::judge::judge;
+use crate::names::ends_at;
 use crate::places;
+use crate::words::u32_at;
+use memchr::memrchr;
 use std::marker::Model;
 
 /// A function table that was read. Contracts see its bytes.
 #[derive(Drop)]
 pub struct Table<'a> {
     bytes: &'a [u8],
+    // The place of the last zero byte.
+    last_zero: Option<usize>,
 }
 
 impl<'a> Model for Table<'a> {
     ghost use Rattle.std.specs.Prelude.{ℕ, List};
-    ghost use Rattle.pclntab.specs.Ready.{IsRead};
+    ghost use Rattle.pclntab.specs.Ready.{IsReadTo};
 
     ghost Value = { List ℕ };
 
     ghost view = { λ t. t.bytes.now };
 
-    ghost invariant = { λ t. IsRead t.bytes.now };
+    ghost invariant = { λ t. IsReadTo t.bytes.now t.last_zero };
 }
 
 impl<'a> Table<'a> {
@@ -40,7 +47,10 @@ impl<'a> Table<'a> {
         ensures faultless { IsTable bytes.now ↔ (table_fault bytes.now ≡ None) }
     {
         judge(bytes)?;
-        Ok(Table { bytes })
+        Ok(Table {
+            bytes,
+            last_zero: memrchr(0, bytes),
+        })
     }
 
     /// How many functions it has.
@@ -48,6 +58,34 @@ impl<'a> Table<'a> {
         ensures { result ≡ func_count self.now }
     {
         places::func_count(self.bytes) as u32
+    }
+
+    /// The size in bytes of the steps by which its pc-value tables count places.
+    pub fn quantum(&self) -> u8
+        ensures { result ≡ quantum self.now }
+    {
+        places::quantum(self.bytes)
+    }
+
+    /// The address of the text.
+    pub fn text_start(&self) -> u64
+        ensures { result ≡ text_start self.now }
+    {
+        places::text_start(self.bytes)
+    }
+
+    /// Whether the number stands for a file of the function with this index: it isn't negative, and its word and its name,
+    /// up to a zero byte, lie within the bytes. It takes constant time.
+    pub fn has_file(&self, index: u32, number: i32) -> bool
+        requires { index < func_count self.now }
+        ensures { IsTrue result ↔ IsSome (numbered_from self.now (u32_at self.now (unit_field self.now index)) number) }
+    {
+        let bytes = self.bytes;
+        if number < 0 {
+            return false;
+        }
+        let unit = u32_at(bytes, places::unit_field(bytes, index));
+        has_name(bytes, number as u64 + u64::from(unit), self.last_zero)
     }
 
     /// The function with this number, from 0 in the order of entries.
@@ -106,4 +144,20 @@ impl<'a> Table<'a> {
         }
         low
     }
+}
+
+// Whether the word and the name of the file with this number in the table of units lie within the bytes.
+#[tactic(auto, unfolding(crate::specs::Func::file_name))]
+fn has_name(bytes: &[u8], number: u64, last_zero: Option<usize>) -> bool
+    requires ready { IsReady bytes.now }
+    requires number { number < 2 ^ 33 }
+    requires last { IsLastByte (is_byte 0) bytes.now last_zero }
+    ensures { IsTrue result ↔ IsSome (file_name bytes.now number) }
+{
+    let word = places::units_start(bytes) + 4 * number;
+    if word + 4 > bytes.len() as u64 {
+        return false;
+    }
+    let name = places::files_start(bytes) + u64::from(u32_at(bytes, word as usize));
+    ends_at(bytes, name as usize, last_zero)
 }

@@ -99,7 +99,7 @@ has_found from place (run ∷ runs) whole value rises (inr later) =
 present : (offset : ℕ) → 0 < offset → (offset == 0) ≡ false
 present offset some = grind (arith, nat_tests)
 
-looked_up : (table : List ℕ) (offset quantum place : ℕ)
+pub looked_up : (table : List ℕ) (offset quantum place : ℕ)
     → 0 < offset → value_in table offset quantum place ≡ answer_of place (runs_at table offset quantum)
 unfolding value_in
 looked_up table offset quantum place some = rw (present offset some) refl

@@ -3,6 +3,9 @@
 #![tactic(auto)]
 
 mod answer;
+mod cover;
+mod laws;
+mod least;
 mod lookup;
 mod run;
 mod step;
@@ -10,6 +13,8 @@ mod varint;
 mod writing;
 
 pub use answer::Answer;
+pub use cover::values_over;
+pub use laws::values_are_settled;
 pub use lookup::{is_pc_table, value_at};
 pub use run::Run;
 pub use writing::encode;

@@ -6,7 +6,7 @@ use Rattle.pclntab.proofs.table.Table.begun_by.Goals as goal
 
 pub loop-low-preserved-then-entry-pc : goal.loop-low-preserved-then-entry-pc
 loop-low-preserved-then-entry-pc c =
-    let read : IsRead c.args.self.now = rw c.self.view_is at c.self.invariant in
+    let read : IsRead c.args.self.now = rw c.self.view_is at c.self.invariant.read in
     let here : entry_of c.args.self.now (c.loop-low.low + (c.loop-low.high - c.loop-low.low) / 2) ≤ c.args.pc = search rules in
     record {
       ordered = omega arith;
@@ -17,7 +17,7 @@ loop-low-preserved-then-entry-pc c =
 
 pub loop-low-preserved : goal.loop-low-preserved
 loop-low-preserved c =
-    let read : IsRead c.args.self.now = rw c.self.view_is at c.self.invariant in
+    let read : IsRead c.args.self.now = rw c.self.view_is at c.self.invariant.read in
     let here : c.args.pc < entry_of c.args.self.now (c.loop-low.low + (c.loop-low.high - c.loop-low.low) / 2) = search rules in
     record {
       ordered = omega arith;

@@ -4,7 +4,7 @@ use Rattle.pclntab.proofs.table.Table.find.Goals as goal
 
 pub returns-clause-one : goal.returns-clause-one
 returns-clause-one c =
-    let read : IsRead c.args.self.now = rw c.self.view_is at c.self.invariant in
+    let read : IsRead c.args.self.now = rw c.self.view_is at c.self.invariant.read in
     one_found c.args.self.now c.args.pc c.search.result read c.search.ensures.some
 
 pub returns-clause-covered : goal.returns-clause-covered
