@@ -11,9 +11,8 @@ use Rattle.asm_target.specs.declared.sequence.Sequence.TheVariants.{Plain, Savin
 use Rattle.asm_target.specs.InstructionSet.{InstructionSet}
 use Rattle.asm_target.specs.SequenceLaws.{StandsApart}
 use Rattle.asm_target.specs.Sequences.{count_of, is_plain}
-use Rattle.flow_rules.specs.declared.outside.Outside.{Outside}
 use Rattle.flow_rules.specs.Lawful.{IsLawful}
-use Rattle.flow_rules.specs.Placing.{ArePlaced, function_of, place_of}
+use Rattle.flow_rules.specs.Placing.{ArePlaced, Surroundings, function_of, place_of}
 
 module _ {Instr : Type 0} (code : List (Placed Instr)) (is : ArePlaced code) where
   next_rises : (k : ℕ) → suc k < length code → place_of (slice_get code k) < place_of (slice_get code (suc k))
@@ -47,7 +46,7 @@ count_within (Restoring count total) n some there = there refl
 count_within (Growth count) n some there = there refl
 
 module _ {Instr : Type 0} (set : InstructionSet Instr) (shape : Shape) (begins : List Instr → Sequence)
-    (apart : (code : List Instr) → StandsApart begins code) (code : List (Placed Instr)) (depths : List ℕ) (out : Outside) where
+    (apart : (code : List Instr) → StandsApart begins code) (code : List (Placed Instr)) (depths : List ℕ) (surroundings : Surroundings) where
   abbrev behind : ℕ → List Instr
   behind k = map (λ placed. placed.instr) (drop k code)
 
@@ -58,7 +57,7 @@ module _ {Instr : Type 0} (set : InstructionSet Instr) (shape : Shape) (begins :
   behind_more s j =
       ap (map (λ placed. placed.instr)) (sym (drop-drop j s code)) ∙ sym (drop-map (λ placed. placed.instr) j (drop s code))
 
-  pub lawful_code : ArePlaced code → IsLawful (function_of set shape begins code depths out)
+  pub lawful_code : ArePlaced code → IsLawful (function_of set shape begins code depths surroundings)
   lawful_code is = record {
     rises = places_rise code is;
     some = λ s. (apart (behind s)).some;

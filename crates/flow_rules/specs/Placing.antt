@@ -1,5 +1,5 @@
 -- Instructions at their places, and the function that they are.
-use Rattle.std.specs.Prelude.{◌≡◌, ℕ, suc, ◌+◌, ◌-◌, ◌^◌, ◌<◌, ◌≤◌, ◌==◌, List, map, length, drop, Option, Some, None, false}
+use Rattle.std.specs.Prelude.{◌≡◌, ℕ, suc, ◌+◌, ◌-◌, ◌^◌, ◌<◌, ◌≤◌, ◌==◌, Bool, List, map, length, drop, Option, Some, None, false}
 use Rattle.std.specs.List.{slice_get, list_any}
 use Rattle.machine_effect.specs.declared.flow.Flow.{Flow}
 use Rattle.machine_effect.specs.declared.flow.Shape.{Shape}
@@ -9,11 +9,23 @@ use Rattle.machine_effect.specs.Flow.{flow_of}
 use Rattle.asm_target.specs.declared.body.Placed.{Placed}
 use Rattle.asm_target.specs.declared.sequence.Sequence.{Sequence}
 use Rattle.asm_target.specs.DepthChange.{depth_or_zero}
-use Rattle.asm_target.specs.FlowFunction.{FlowFunction}
+use Rattle.asm_target.specs.FlowFunction.{FlowFunction, Range}
 use Rattle.asm_target.specs.FlowRules.{Breach}
 use Rattle.asm_target.specs.InstructionSet.{InstructionSet}
 use Rattle.flow_rules.specs.declared.flow_no.FlowNo.{FlowNo}
 use Rattle.flow_rules.specs.declared.outside.Outside.{Outside}
+
+-- what surrounds a function: the bytes of the text, its entries, and the routines outside that have the stack grow
+pub record Surroundings : Type 0 where
+  pub text : Range
+  pub entries : List ℕ
+  pub growth : List ℕ
+
+abbrev pub around : Outside → Surroundings
+around out = record { text = record { first = out.first; past = out.past }; entries = out.entries.now; growth = out.growth.now }
+
+abbrev pub is_listed : List ℕ → ℕ → Bool
+is_listed addresses address = list_any (λ listed. listed == address) addresses
 
 -- Each instruction has bytes, the last of them below 2 ^ 64, and stands where the one before it ends
 pub record ArePlaced {Instr : Type 0} (code : List (Placed Instr)) : Type 0 where
@@ -38,19 +50,19 @@ module _ {Instr : Type 0} where
   flow_there set shape None = record { sp = Keep; writes_link = false; stores_link = false; next = next.Stop }
 
   -- the function that has these instructions, each with its depth, and stands in this text
-  abbrev pub function_of : InstructionSet Instr → Shape → (List Instr → Sequence) → List (Placed Instr) → List ℕ → Outside
+  abbrev pub function_of : InstructionSet Instr → Shape → (List Instr → Sequence) → List (Placed Instr) → List ℕ → Surroundings
       → FlowFunction
-  function_of set shape begins code depths out = record {
+  function_of set shape begins code depths surroundings = record {
     count = length code;
     at = λ k. place_of (slice_get code k);
     depth = λ k. depth_or_zero (slice_get depths k);
     flow = λ k. flow_there set shape (slice_get code k);
     found = λ k. begins (map (λ placed. placed.instr) (drop k code));
     link = shape.link;
-    text = record { first = out.first; past = out.past };
+    text = surroundings.text;
     own = record { first = place_of (slice_get code 0); past = end_of (slice_get code (length code - 1)) };
-    is_entry = λ address. list_any (λ entry. entry == address) out.entries.now;
-    is_growth_routine = λ address. list_any (λ routine. routine == address) out.growth.now;
+    is_entry = is_listed surroundings.entries;
+    is_growth_routine = is_listed surroundings.growth;
   }
 
 -- what a refusal tells

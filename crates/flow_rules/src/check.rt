@@ -1,7 +1,7 @@
 ghost use Rattle.std.specs.Prelude.{◌≡◌, ◌<◌, length, OnOk, IfErr};
 ghost use Rattle.std.specs.List.Sorted.{IsNonDecreasing};
 ghost use Rattle.asm_target.specs.FlowRules.{IsFirstBreach, IsFlowSound};
-ghost use Rattle.flow_rules.specs.Placing.{ArePlaced, function_of, told};
+ghost use Rattle.flow_rules.specs.Placing.{ArePlaced, around, function_of, told};
 
 use crate::breach::breach_at;
 use crate::code::Code;
@@ -16,7 +16,8 @@ use asm_target::{Placed, Target};
 /// Checks that a function keeps the rules F1 to F9, or tells its first breach: by address, and at one instruction by the rule's number.
 ///
 /// `depths` are the instructions' depths by the function's table, in bytes. There is an instruction, each has bytes, the last of them below 2^64,
-/// and stands where the one before it ends. Entries are in order.
+/// and stands where the one before it ends. Entries are in order, and so are the routines that
+/// have the stack grow.
 pub fn flow_ok<T: Target>(
     code: &[Placed<T::Instr>],
     depths: &[u32],
@@ -26,8 +27,9 @@ pub fn flow_ok<T: Target>(
     requires as_many { length depths.now ≡ length code.now }
     requires placed { ArePlaced code.now }
     requires ordered { IsNonDecreasing out.now.entries.now }
-    ensures ok { OnOk result (IsFlowSound (function_of T.instructions T.SHAPE T.begins code.now depths.now out.now)) }
-    ensures breach { IfErr result (λ no. IsFirstBreach (function_of T.instructions T.SHAPE T.begins code.now depths.now out.now) (told no)) }
+    requires routines { IsNonDecreasing out.now.growth.now }
+    ensures ok { OnOk result (IsFlowSound (function_of T.instructions T.SHAPE T.begins code.now depths.now (around out.now))) }
+    ensures breach { IfErr result (λ no. IsFirstBreach (function_of T.instructions T.SHAPE T.begins code.now depths.now (around out.now)) (told no)) }
 {
     check(&Code::<T> { code, depths, out })
 }

@@ -16,16 +16,17 @@ pub struct Code<'a, T: Target> {
     ghost as_many: { length depths.now ≡ length code.now },
     ghost placed: { ArePlaced code.now },
     ghost ordered: { IsNonDecreasing out.now.entries.now },
+    ghost routines: { IsNonDecreasing out.now.growth.now },
 }
 
 impl<'a, T: Target> Listing for Code<'a, T> {
-    ghost use Rattle.flow_rules.specs.Placing.{function_of};
+    ghost use Rattle.flow_rules.specs.Placing.{around, function_of};
     ghost use Rattle.flow_rules.specs.CodeLaws.{lawful_code};
 
-    ghost function = { λ listing. function_of T.instructions T.SHAPE T.begins listing.code.now listing.depths.now listing.out.now };
+    ghost function = { λ listing. function_of T.instructions T.SHAPE T.begins listing.code.now listing.depths.now (around listing.out.now) };
 
     ghost lawful = { λ listing. lawful_code T.instructions T.SHAPE T.begins T.apart listing.code.now listing.depths.now
-        listing.out.now listing.placed };
+        (around listing.out.now) listing.placed };
 
     fn count(&self) -> usize {
         self.code.len()
@@ -67,6 +68,6 @@ impl<'a, T: Target> Listing for Code<'a, T> {
     }
 
     fn is_growth_routine(&self, address: u64) -> bool {
-        self.out.growth.iter().any(|routine| *routine == address)
+        self.out.growth.binary_search(&address).is_ok()
     }
 }

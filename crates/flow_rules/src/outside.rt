@@ -7,6 +7,6 @@ pub struct Outside<'a> {
     pub past: u64,
     /// The entries of all functions of the text, in order.
     pub entries: &'a [u64],
-    /// The routines outside the text that have the stack grow.
+    /// The routines outside the text that have the stack grow, in order.
     pub growth: &'a [u64],
 }

@@ -24,6 +24,7 @@ pub fn judged<T: Target>(
         || depths.len() != code.len()
         || !are_placed(&code)
         || !out.entries.is_sorted()
+        || !out.growth.is_sorted()
     {
         return Ok(None);
     }

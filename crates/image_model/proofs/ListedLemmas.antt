@@ -22,9 +22,8 @@ use Rattle.asm_target.specs.SequenceLaws.{DoSequences, StandsApart}
 use Rattle.asm_target.specs.Sequences.{count_of, is_plain}
 use Rattle.asm_target.proofs.FlowLemmas.{stays}
 use Rattle.asm_target.proofs.PlaceLemmas.{fit_at, item_at, slice_get-drop}
-use Rattle.flow_rules.specs.declared.outside.Outside.{Outside}
 use Rattle.flow_rules.specs.CodeLaws.{lawful_code}
-use Rattle.flow_rules.specs.Placing.{ArePlaced, end_of, place_of}
+use Rattle.flow_rules.specs.Placing.{ArePlaced, Surroundings, end_of, place_of}
 use Rattle.image_model.specs.Actions.{ActsAs}
 use Rattle.image_model.specs.Joined.{IsInRow, IsMachine, IsMachineCode, IsText, IsTold}
 use Rattle.image_model.specs.Listed.{AreFunctions, AreSpelled, Listed, code_of, placed_there, text_of}
@@ -99,7 +98,7 @@ module _ {Instr : Type 0} (set : InstructionSet Instr) (fits : Instr → Type 0)
   all_fit (one ∷ code) spelled =
       All-cons (λ (one : Placed Instr). fits one.instr) one code (All-head IsSpelled one code spelled).0 (all_fit code (All-tail IsSpelled one code spelled))
 
-  module _ (shape : Shape) (growth : Option ℕ) (begins : List Instr → Sequence) (out : Outside) (listed : Listed Instr)
+  module _ (shape : Shape) (growth : Option ℕ) (begins : List Instr → Sequence) (around : Surroundings) (listed : Listed Instr)
       (some : 0 < length listed.code) (placed : ArePlaced listed.code) (spelled : AreSpelled set fits listed.code) where
     here : (k : ℕ) → k < length listed.code → (one : Placed Instr) × (slice_get listed.code k ≡ Some one)
     here k inside = item_at listed.code k inside
@@ -108,7 +107,7 @@ module _ {Instr : Type 0} (set : InstructionSet Instr) (fits : Instr → Type 0)
         → (placed_there set (slice_get listed.code k)).past ≡ end_of (slice_get listed.code k)
     ends_is k one there = rw there refl
 
-    pub row : IsInRow (code_of set shape begins out listed)
+    pub row : IsInRow (code_of set shape begins around listed)
     row = record {
       some = some;
       long = λ k inside.
@@ -191,9 +190,9 @@ module _ {Instr : Type 0} (set : InstructionSet Instr) (fits : Instr → Type 0)
       fit_here k one there = (fit_at IsSpelled listed.code k one spelled there).0
 
       pub machine_code : (count : ℕ) (functions : ℕ → Listed Instr)
-          → IsMachineCode (text_of set shape growth begins out count functions) (code_of set shape begins out listed)
+          → IsMachineCode (text_of set shape growth begins around count functions) (code_of set shape begins around listed)
       machine_code count functions = record {
-        lawful = lawful_code set shape begins apart listed.code listed.depths out placed;
+        lawful = lawful_code set shape begins apart listed.code listed.depths around placed;
         acts = acts_there;
         still = λ k inside ends.
             let one = here k inside in
@@ -217,7 +216,7 @@ module _ {Instr : Type 0} (set : InstructionSet Instr) (fits : Instr → Type 0)
       }
 
       pub told : (count : ℕ) (functions : ℕ → Listed Instr)
-          → IsTold (text_of set shape growth begins out count functions) (code_of set shape begins out listed)
+          → IsTold (text_of set shape growth begins around count functions) (code_of set shape begins around listed)
       told count functions = record {
         link = refl;
         range = refl;
@@ -229,13 +228,13 @@ module _ {Instr : Type 0} (set : InstructionSet Instr) (fits : Instr → Type 0)
   module _ (machine quantum : ℕ) (shape : Shape) (growth : Option ℕ) (begins : List Instr → Sequence)
       (known : IsArchitecture (record { machine = machine; quantum = quantum; shape = shape; growth = growth }))
       (apart : (code : List Instr) → StandsApart begins code) (acts : DoSequences set shape fits begins growth)
-      (only : HasOnlyGoing set fits) (links : HasLinks set fits shape) (out : Outside) (count : ℕ) (functions : ℕ → Listed Instr)
-      (are : AreFunctions set fits out count functions) where
-    pub text_is : IsText (text_of set shape growth begins out count functions)
+      (only : HasOnlyGoing set fits) (links : HasLinks set fits shape) (around : Surroundings) (count : ℕ) (functions : ℕ → Listed Instr)
+      (are : AreFunctions set fits around count functions) where
+    pub text_is : IsText (text_of set shape growth begins around count functions)
     text_is = record {
-      row = λ i less. row shape growth begins out (functions i) (are.some i less) (are.placed i less) (are.spelled i less);
+      row = λ i less. row shape growth begins around (functions i) (are.some i less) (are.placed i less) (are.spelled i less);
       told = λ i less.
-          told shape growth begins out (functions i) (are.some i less) (are.placed i less) (are.spelled i less)
+          told shape growth begins around (functions i) (are.some i less) (are.placed i less) (are.spelled i less)
           apart acts only links count functions;
       apart = are.apart;
       low = are.low;
@@ -245,12 +244,12 @@ module _ {Instr : Type 0} (set : InstructionSet Instr) (fits : Instr → Type 0)
       growth = are.growth;
     }
 
-    pub machine_is : IsMachine (text_of set shape growth begins out count functions)
+    pub machine_is : IsMachine (text_of set shape growth begins around count functions)
     machine_is =
         let registers = registers_of (record { machine = machine; quantum = quantum; shape = shape; growth = growth }) known in
         record {
           registers = record { sp = registers.0; link = registers.1 };
           code = λ i less.
-              machine_code shape growth begins out (functions i) (are.some i less) (are.placed i less) (are.spelled i less)
+              machine_code shape growth begins around (functions i) (are.some i less) (are.placed i less) (are.spelled i less)
               apart acts only links count functions;
         }

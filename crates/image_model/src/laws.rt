@@ -2,7 +2,7 @@
 ghost use Rattle.std.specs.Prelude.{◌≡◌, ◌<◌, ℕ, Some, None, true};
 ghost use Rattle.std.specs.Option.{option_map};
 ghost use Rattle.asm_target.specs.FlowRules.{IsFlowSound};
-ghost use Rattle.flow_rules.specs.declared.outside.Outside.{Outside};
+ghost use Rattle.flow_rules.specs.Placing.{Surroundings};
 ghost use Rattle.image_model.specs.Image.{Line, is_served};
 ghost use Rattle.image_model.specs.Joined.{AreFlowSound, IsCallOf, IsLineOf, IsMachine, IsSoundFunction, IsText, Text, joined, line_of};
 ghost use Rattle.image_model.specs.Listed.{AreFunctions, Listed, text_of};
@@ -41,12 +41,12 @@ pub fn image_is_sound()
 
 /// Functions of a target's instructions, one behind the other, are a text of machine code.
 pub fn listed_is_text<T: Target>()
-    ensures text { (out : Outside) (count : ℕ) (functions : ℕ → Listed T.Instr)
-        → AreFunctions T.instructions T.fits out count functions
-        → IsText (text_of T.instructions T.SHAPE T.GROWTH T.begins out count functions) }
-    ensures machine { (out : Outside) (count : ℕ) (functions : ℕ → Listed T.Instr)
-        → AreFunctions T.instructions T.fits out count functions
-        → IsMachine (text_of T.instructions T.SHAPE T.GROWTH T.begins out count functions) }
+    ensures text { (around : Surroundings) (count : ℕ) (functions : ℕ → Listed T.Instr)
+        → AreFunctions T.instructions T.fits around count functions
+        → IsText (text_of T.instructions T.SHAPE T.GROWTH T.begins around count functions) }
+    ensures machine { (around : Surroundings) (count : ℕ) (functions : ℕ → Listed T.Instr)
+        → AreFunctions T.instructions T.fits around count functions
+        → IsMachine (text_of T.instructions T.SHAPE T.GROWTH T.begins around count functions) }
 {}
 
 // What is asked of functions holds of two, of which one calls the other.
