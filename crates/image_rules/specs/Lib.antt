@@ -1,0 +1,5 @@
+pub mod Machine
+pub mod Parts
+pub mod Functions
+pub mod Sound
+pub mod Refusals
