@@ -1,3 +1,4 @@
 mod Examples
 pub mod RawLemmas
 pub mod ReadingLemmas
+mod ListingLemmas

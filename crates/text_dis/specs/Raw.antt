@@ -5,10 +5,13 @@ use Rattle.hex.specs.Hex.{encode_lower}
 use Rattle.goasm_base.specs.Numbers.{decimal_text}
 use Rattle.asm_target.specs.InstructionSet.{InstructionSet, Begins, IsFirst}
 
--- `OFFSET HEX TEXT` and a newline: a place in decimal, bytes with two small digits each, and what is said of them
+-- ` HEX TEXT` and a newline: bytes with two small digits each, and what is said of them
+abbrev pub said_text : List ℕ → List ℕ → List ℕ
+said_text bytes said = codes " " ++ encode_lower bytes ++ codes " " ++ said ++ codes "\n"
+
+-- `OFFSET HEX TEXT` and a newline, with a place in decimal
 abbrev pub line_text : ℕ → List ℕ → List ℕ → List ℕ
-line_text offset bytes said =
-    decimal_text (pos offset) ++ codes " " ++ encode_lower bytes ++ codes " " ++ said ++ codes "\n"
+line_text offset bytes said = decimal_text (pos offset) ++ said_text bytes said
 
 module _ {Instr : Type 0} (set : InstructionSet Instr) (fits : Instr → Type 0) (quantum : ℕ) where
   -- the line of the instruction that the bytes begin with, of n bytes: its text is that at the place where it stands

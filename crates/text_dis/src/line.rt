@@ -1,6 +1,6 @@
 ghost use Rattle.std.specs.Prelude.{◌≡◌, ℕ, List, ◌++◌, ◌+◌, ◌*◌, ◌<◌, ◌≤◌, min, length, take, IfOk, OnOk};
 ghost use Rattle.hex.specs.Hex.{encode_lower};
-ghost use Rattle.text_dis.specs.Raw.{IsLine, line_text};
+ghost use Rattle.text_dis.specs.Raw.{IsLine, line_text, said_text};
 
 use asm_target::{Processor, first_instr};
 use goasm_base::{Memory, Text};
@@ -49,6 +49,14 @@ fn push_parts(text: &mut Text, offset: u64, bytes: &[u8], said: &[u8]) -> Result
     ensures { OnOk result (text.new ≡ text.old ++ line_text offset bytes.now said.now) }
 {
     text.push_unsigned(offset)?;
+    push_said(text, bytes, said)
+}
+
+/// Appends what stands behind the place in a line: the bytes, and what is said of them.
+pub fn push_said(text: &mut Text, bytes: &[u8], said: &[u8]) -> Result<(), Memory>
+    requires { length bytes.now ≤ 15 }
+    ensures { OnOk result (text.new ≡ text.old ++ said_text bytes.now said.now) }
+{
     text.push(b" ")?;
     push_hex_bytes(text, bytes)?;
     text.push(b" ")?;
