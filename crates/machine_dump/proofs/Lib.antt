@@ -1,0 +1,12 @@
+mod Examples
+mod LineLemmas
+mod DigitLemmas
+mod FormLemmas
+mod JudgeLemmas
+mod RangeLemmas
+mod RiseLemmas
+mod SearchLemmas
+mod WindowLemmas
+mod HeaderLemmas
+mod MarkLemmas
+mod WordLemmas

@@ -1,0 +1,3 @@
+pub mod FrameLemmas
+pub mod OneLemmas
+pub mod MomentLemmas
