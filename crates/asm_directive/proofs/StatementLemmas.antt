@@ -1,5 +1,5 @@
 -- A file, cut into statements.
-use Rattle.std.proofs.Common.{◌≡◌, suc, ◌+◌, nat_eq, Bool, false, List, [], ◌∷◌, ◌++◌, map, take, drop, length, inl, inr, refl, sym, ap, ◌∙◌, append_assoc, append-nil, arith}
+use Rattle.std.proofs.Common.{◌≡◌, suc, ◌+◌, ◌<◌, ◌≤◌, Bool, List, [], ◌∷◌, ◌++◌, map, take, drop, length, inl, inr, refl, sym, ap, ◌∙◌, append_assoc, append-nil, arith}
 use Rattle.std.specs.List.{flat_map, onto_first, position_or_len}
 use Rattle.std.proofs.lemmas.Bool.{cases_Bool}
 use Rattle.std.proofs.lemmas.List.{map-append}
@@ -27,19 +27,19 @@ split_first ends first (next ∷ rest) =
     ]
 
 -- the first part of a list, and those of what is left behind it
-split_next : {A : Type 0} (ends : A → Bool) (rest : List A) → nat_eq (length rest) 0 ≡ false
+split_next : {A : Type 0} (ends : A → Bool) (rest : List A) → 0 < length rest
     → split_inclusive ends rest ≡ take (position_or_len ends rest + 1) rest ∷ split_inclusive ends (drop (position_or_len ends rest + 1) rest)
-split_next ends [] some = cc
+split_next ends [] some = absurd (omega (arith, some))
 split_next ends (first ∷ rest) some = split_first ends first rest
 
-split_none : {A : Type 0} (ends : A → Bool) (rest : List A) → length rest ≡ 0 → split_inclusive ends rest ≡ []
+split_none : {A : Type 0} (ends : A → Bool) (rest : List A) → length rest ≤ 0 → split_inclusive ends rest ≡ []
 unfolding split_inclusive
 split_none ends [] none = refl
 split_none ends (first ∷ rest) none = absurd (omega arith)
 
 -- a part more of a line
 pub parts_next : (before after : List declared.Statement) (statement : declared.Statement) (rest next : List Token) (whole : List Statement)
-    → nat_eq (length rest) 0 ≡ false → after ≡ before ++ statement ∷ []
+    → 0 < length rest → after ≡ before ++ statement ∷ []
     → statement_of statement ≡ plain (take (position_or_len is_end rest + 1) rest) → next ≡ drop (position_or_len is_end rest + 1) rest
     → map statement_of before ++ map plain (split_inclusive is_end rest) ≡ whole
     → map statement_of after ++ map plain (split_inclusive is_end next) ≡ whole
@@ -48,13 +48,13 @@ parts_next before after statement rest next whole some adds is there known =
     = rw (split_next is_end rest some) at known in
     rw (adds, map-append, append_assoc, is, there) step
 
-pub parts_end : (before : List Statement) (rest : List Token) (whole : List Statement) → length rest ≡ 0
+pub parts_end : (before : List Statement) (rest : List Token) (whole : List Statement) → length rest ≤ 0
     → before ++ map plain (split_inclusive is_end rest) ≡ whole → before ≡ whole
 parts_end before rest whole none known = sym (append-nil before) ∙ (rw (split_none is_end rest none) at known)
 
 -- a line more of a file
 pub lines_next : (before after : List Statement) (line rest next : List Token) (whole : List Statement)
-    → nat_eq (length rest) 0 ≡ false → after ≡ before ++ statements_on line
+    → 0 < length rest → after ≡ before ++ statements_on line
     → line ≡ take (position_or_len is_newline rest + 1) rest → next ≡ drop (position_or_len is_newline rest + 1) rest
     → before ++ flat_map statements_on (split_inclusive is_newline rest) ≡ whole
     → after ++ flat_map statements_on (split_inclusive is_newline next) ≡ whole
@@ -63,6 +63,6 @@ lines_next before after line rest next whole some adds is there known =
     = rw (split_next is_newline rest some) at known in
     rw (adds, append_assoc, is, there) step
 
-pub lines_end : (before : List Statement) (rest : List Token) (whole : List Statement) → length rest ≡ 0
+pub lines_end : (before : List Statement) (rest : List Token) (whole : List Statement) → length rest ≤ 0
     → before ++ flat_map statements_on (split_inclusive is_newline rest) ≡ whole → before ≡ whole
 lines_end before rest whole none known = sym (append-nil before) ∙ (rw (split_none is_newline rest none) at known)

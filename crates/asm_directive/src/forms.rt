@@ -11,7 +11,7 @@ use std::alloc::Global;
 
 /// One word and no more.
 #[tactic(auto, unfolding(crate::specs::Directives::name_in))]
-pub fn name_in(words: &[Token]) -> Option<&[u8]>
+pub fn name_in<'a>(words: &[Token<'a>]) -> Option<&'a [u8]>
     ensures { name_of result ≡ spec.name_in words.now }
 {
     match words {
@@ -22,7 +22,7 @@ pub fn name_in(words: &[Token]) -> Option<&[u8]>
 
 /// One text and no more: what it stands for.
 #[tactic(auto, unfolding(crate::specs::Directives::quoted_in))]
-pub fn quoted_in(alloc: Global, words: &[Token]) -> Result<Option<Name>, Memory>
+pub fn quoted_in(alloc: Global, words: &[Token<'_>]) -> Result<Option<Name>, Memory>
     ensures { IfOk result (λ name. name ≡ spec.quoted_in words.now) }
 {
     match words {
@@ -40,7 +40,7 @@ pub struct Mark {
 
 /// A number, a text and no more.
 #[tactic(auto, unfolding(crate::specs::Directives::mark_in))]
-pub fn mark_in(alloc: Global, words: &[Token]) -> Result<Option<Mark>, Memory>
+pub fn mark_in(alloc: Global, words: &[Token<'_>]) -> Result<Option<Mark>, Memory>
     ensures { IfOk result (λ mark. line_mark_of mark ≡ spec.mark_in words.now) }
 {
     match words {
@@ -66,14 +66,17 @@ pub struct ParameterMap<'a> {
 
 // Parameters, and the body behind them.
 #[derive(Drop)]
-pub struct Opening<'a> {
+pub struct Opening<'t, 'a> {
     pub parameters: ParameterMap<'a>,
-    pub body: &'a [Token],
+    pub body: &'t [Token<'a>],
 }
 
 // Words that differ, with commas between them, up to a closing bracket.
 #[tactic(auto, unfolding(crate::proofs::HeadLemmas::head_from), using(crate::proofs::HeadLemmas::head_is))]
-fn head_from<'a>(alloc: Global, tokens: &'a [Token]) -> Result<Option<Opening<'a>>, Memory>
+fn head_from<'t, 'a>(
+    alloc: Global,
+    tokens: &'t [Token<'a>],
+) -> Result<Option<Opening<'t, 'a>>, Memory>
     ensures { IfOk result (λ head. head_of head ≡ spec.head_by (spec.words_in tokens.now)) }
 {
     let mut places = NameMap::new(alloc);
@@ -104,7 +107,10 @@ fn head_from<'a>(alloc: Global, tokens: &'a [Token]) -> Result<Option<Opening<'a
 
 // What stands behind the opening bracket of parameters, of which there may be none.
 #[tactic(auto, unfolding(crate::specs::Directives::head_in))]
-fn head_in<'a>(alloc: Global, tokens: &'a [Token]) -> Result<Option<Opening<'a>>, Memory>
+fn head_in<'t, 'a>(
+    alloc: Global,
+    tokens: &'t [Token<'a>],
+) -> Result<Option<Opening<'t, 'a>>, Memory>
     ensures { IfOk result (λ head. head_of head ≡ spec.head_in tokens.now) }
 {
     match tokens {
@@ -122,20 +128,20 @@ fn head_in<'a>(alloc: Global, tokens: &'a [Token]) -> Result<Option<Opening<'a>>
 
 /// What a `#define` says.
 #[derive(Drop)]
-pub struct NamedMacro<'a> {
+pub struct NamedMacro<'t, 'a> {
     pub name: &'a [u8],
     /// The parameters of one that takes arguments.
     pub parameters: Option<ParameterMap<'a>>,
-    pub body: &'a [Token],
+    pub body: &'t [Token<'a>],
 }
 
 // A definition of this name. A bracket that stands directly behind the name opens parameters.
 #[tactic(auto, unfolding(crate::specs::Directives::definition_behind))]
-fn definition_behind<'a>(
+fn definition_behind<'t, 'a>(
     alloc: Global,
     name: &'a [u8],
-    tokens: &'a [Token],
-) -> Result<Option<NamedMacro<'a>>, Memory>
+    tokens: &'t [Token<'a>],
+) -> Result<Option<NamedMacro<'t, 'a>>, Memory>
     ensures { IfOk result (λ named. named_of named ≡ spec.definition_behind name.now tokens.now) }
 {
     match tokens {
@@ -159,10 +165,10 @@ fn definition_behind<'a>(
 
 /// A name, parameters where a bracket stands directly behind it, and a body.
 #[tactic(auto, unfolding(crate::specs::Directives::definition_in))]
-pub fn definition_in<'a>(
+pub fn definition_in<'t, 'a>(
     alloc: Global,
-    words: &'a [Token],
-) -> Result<Option<NamedMacro<'a>>, Memory>
+    words: &'t [Token<'a>],
+) -> Result<Option<NamedMacro<'t, 'a>>, Memory>
     ensures { IfOk result (λ named. named_of named ≡ spec.definition_in words.now) }
 {
     match words {

@@ -18,7 +18,7 @@ pub enum Keyword {
     Other,
 }
 
-pub fn keyword_of(words: &[Token]) -> Keyword
+pub fn keyword_of(words: &[Token<'_>]) -> Keyword
     ensures { result ≡ spec.keyword_of words.now }
 {
     match words {
@@ -28,7 +28,7 @@ pub fn keyword_of(words: &[Token]) -> Keyword
 }
 
 #[tactic(auto, unfolding(crate::specs::Directives::keyword))]
-fn word_keyword(word: &Token) -> Keyword
+fn word_keyword(word: &Token<'_>) -> Keyword
     ensures { result ≡ spec.keyword word.now }
 {
     if says(b"define", word) {

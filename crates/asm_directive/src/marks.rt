@@ -77,7 +77,7 @@ fn distinct(alloc: Global, all: &[Name]) -> Result<Vec<Name>, Memory>
 
 // The file that a statement names, if it is a `#line` of known form.
 #[tactic(auto, unfolding(crate::specs::LineNames::name_by))]
-fn name_by(alloc: Global, statement: Statement<'_>) -> Result<Option<Name>, Memory>
+fn name_by(alloc: Global, statement: Statement<'_, '_>) -> Result<Option<Name>, Memory>
     ensures { IfOk result (λ name. name ≡ spec.name_by statement.entry.directive statement.entry.tokens.now) }
 {
     match statement.tokens {
@@ -86,7 +86,7 @@ fn name_by(alloc: Global, statement: Statement<'_>) -> Result<Option<Name>, Memo
     }
 }
 
-fn name_in_words(alloc: Global, words: &[Token]) -> Result<Option<Name>, Memory>
+fn name_in_words(alloc: Global, words: &[Token<'_>]) -> Result<Option<Name>, Memory>
     ensures { IfOk result (λ name. name ≡ spec.name_in_words words.now) }
 {
     match keyword_of(words) {
@@ -110,7 +110,7 @@ fn add_name(names: &mut Vec<Name>, name: Option<Name>) -> Result<(), Memory>
 }
 
 // Adds the names of a file.
-fn add_file(alloc: Global, names: &mut Vec<Name>, tokens: &[Token]) -> Result<(), Memory>
+fn add_file(alloc: Global, names: &mut Vec<Name>, tokens: &[Token<'_>]) -> Result<(), Memory>
     ensures { OnOk result (names.new.items ≡ names.old.items ++ spec.names_in tokens.now) }
 {
     let statements = statements_of(alloc, tokens)?;
@@ -122,8 +122,8 @@ fn add_file(alloc: Global, names: &mut Vec<Name>, tokens: &[Token]) -> Result<()
 
 fn all_names(
     alloc: Global,
-    sources: &[Tokens],
-    includes: &[(Name, Tokens)],
+    sources: &[Tokens<'_>],
+    includes: &[(Name, Tokens<'_>)],
 ) -> Result<Vec<Name>, Memory>
     ensures { IfOk result (λ names. names.items
         ≡ flat_map (λ tokens. spec.names_in tokens.list) (sources.now ++ included_tokens includes.now)) }
@@ -145,8 +145,8 @@ fn all_names(
 #[tactic(auto, unfolding(crate::specs::LineNames::line_names_of), using(crate::proofs::LineNameLemmas::line_names_few))]
 pub fn line_names(
     alloc: Global,
-    sources: &[Tokens],
-    includes: &[(Name, Tokens)],
+    sources: &[Tokens<'_>],
+    includes: &[(Name, Tokens<'_>)],
 ) -> Result<Vec<Name>, Memory>
     ensures names { IfOk result (λ names. names.items ≡ line_names_of sources.now includes.now) }
     ensures few { 4 * length (line_names_of sources.now includes.now)

@@ -7,7 +7,7 @@ use std::alloc::Global;
 
 /// What a text stands for: the bytes between its quotes, each escape in it for one byte.
 #[tactic(auto, unfolding(crate::specs::Texts::value_of))]
-pub fn value_of(alloc: Global, token: &Token) -> Result<Name, Memory>
+pub fn value_of(alloc: Global, token: &Token<'_>) -> Result<Name, Memory>
     ensures { IfOk result (λ value. value ≡ spec.value_of token.now) }
 {
     Ok(Name::new(values(alloc, inside(token.text.as_slice()))?))

@@ -4,14 +4,14 @@ ghost use Rattle.asm_directive.specs.Tokens as spec;
 use asm_lex::{Kind, Token};
 
 #[tactic(auto, unfolding(crate::specs::Tokens::is_word))]
-pub fn is_word(token: &Token) -> bool
+pub fn is_word(token: &Token<'_>) -> bool
     ensures { result ≡ spec.is_word token.now }
 {
     matches!(token.kind, Kind::Word)
 }
 
 #[tactic(auto, unfolding(crate::specs::Tokens::is_text))]
-pub fn is_text(token: &Token) -> bool
+pub fn is_text(token: &Token<'_>) -> bool
     ensures { result ≡ spec.is_text token.now }
 {
     matches!(token.kind, Kind::Text)
@@ -19,7 +19,7 @@ pub fn is_text(token: &Token) -> bool
 
 /// The end of a statement.
 #[tactic(auto, unfolding(crate::specs::Tokens::is_end))]
-pub fn is_end(token: &Token) -> bool
+pub fn is_end(token: &Token<'_>) -> bool
     ensures { result ≡ spec.is_end token.now }
 {
     matches!(token.kind, Kind::End)
@@ -27,7 +27,7 @@ pub fn is_end(token: &Token) -> bool
 
 /// The end of a line, or of the file.
 #[tactic(auto, unfolding(crate::specs::Tokens::is_newline))]
-pub fn is_newline(token: &Token) -> bool
+pub fn is_newline(token: &Token<'_>) -> bool
     ensures { result ≡ spec.is_newline token.now }
 {
     matches!(token.kind, Kind::End) && has_text(token, b"\n")
@@ -35,7 +35,7 @@ pub fn is_newline(token: &Token) -> bool
 
 /// The sign of this one character.
 #[tactic(auto, unfolding(crate::specs::Tokens::is_sign))]
-pub fn is_sign(character: u8, token: &Token) -> bool
+pub fn is_sign(character: u8, token: &Token<'_>) -> bool
     ensures { result ≡ spec.is_sign character token.now }
 {
     matches!(token.kind, Kind::Sign) && has_text(token, &[character])
@@ -43,13 +43,13 @@ pub fn is_sign(character: u8, token: &Token) -> bool
 
 /// This word.
 #[tactic(auto, unfolding(crate::specs::Tokens::says))]
-pub fn says(word: &[u8], token: &Token) -> bool
+pub fn says(word: &[u8], token: &Token<'_>) -> bool
     ensures { result ≡ spec.says word.now token.now }
 {
     matches!(token.kind, Kind::Word) && has_text(token, word)
 }
 
-fn has_text(token: &Token, text: &[u8]) -> bool
+fn has_text(token: &Token<'_>, text: &[u8]) -> bool
     ensures { result ≡ bytes_eq token.now.text text.now }
 {
     token.text.as_slice() == text

@@ -53,7 +53,7 @@ const NOFRAME: u32 = 512;
 
 /// Reads a `TEXT` behind its word.
 #[tactic(auto, unfolding(crate::specs::Directives::text))]
-pub fn read_text<'a>(reader: &mut Reader<'a>) -> Result<TextLine<'a>, Stop>
+pub fn read_text<'a>(reader: &mut Reader<'_, 'a>) -> Result<TextLine<'a>, Stop>
     ensures read { Reads spec.text reader.old result reader.new }
     ensures sized { IfOk result (λ line. spec.IsSized line) }
 {
@@ -73,7 +73,7 @@ pub fn read_text<'a>(reader: &mut Reader<'a>) -> Result<TextLine<'a>, Stop>
 }
 
 #[tactic(auto, unfolding(crate::specs::Directives::locals))]
-fn read_locals(reader: &mut Reader<'_>, flags: u32) -> Result<u32, Stop>
+fn read_locals(reader: &mut Reader<'_, '_>, flags: u32) -> Result<u32, Stop>
     ensures read { Reads (spec.locals flags) reader.old result reader.new }
     ensures sized { IfOk result (λ locals. spec.AreLocals flags locals) }
 {
@@ -85,7 +85,7 @@ fn read_locals(reader: &mut Reader<'_>, flags: u32) -> Result<u32, Stop>
 }
 
 #[tactic(auto, unfolding(crate::specs::Directives::args))]
-fn read_args(reader: &mut Reader<'_>, flags: u32) -> Result<Option<u32>, Stop>
+fn read_args(reader: &mut Reader<'_, '_>, flags: u32) -> Result<Option<u32>, Stop>
     ensures read { Reads (spec.args flags) reader.old result reader.new }
     ensures sized { IfOk result (λ args. spec.AreArguments args) }
 {
@@ -107,7 +107,7 @@ fn has(flags: u32, flag: u32) -> bool
 
 /// Reads a `DATA` behind its word.
 #[tactic(auto, unfolding(crate::specs::Directives::value))]
-pub fn read_data<'a>(alloc: Global, reader: &mut Reader<'a>) -> Result<DataLine<'a>, Stop>
+pub fn read_data<'a>(alloc: Global, reader: &mut Reader<'_, 'a>) -> Result<DataLine<'a>, Stop>
     ensures { Reads spec.value reader.old result reader.new }
 {
     let (symbol, off) = read_place(reader)?;
@@ -127,7 +127,11 @@ pub fn read_data<'a>(alloc: Global, reader: &mut Reader<'a>) -> Result<DataLine<
 }
 
 #[tactic(auto, unfolding(crate::specs::Directives::data_value))]
-fn read_value<'a>(alloc: Global, reader: &mut Reader<'a>, width: u8) -> Result<DataValue<'a>, Stop>
+fn read_value<'a>(
+    alloc: Global,
+    reader: &mut Reader<'_, 'a>,
+    width: u8,
+) -> Result<DataValue<'a>, Stop>
     ensures { Reads (spec.data_value width) reader.old result reader.new }
 {
     if let Some(text) = reader.eat_text() {
@@ -151,7 +155,7 @@ fn text_value<'a>(alloc: Global, text: Word<'a>, width: u8) -> Result<DataValue<
 }
 
 #[tactic(auto, unfolding(crate::specs::Directives::address_value))]
-fn address_value<'a>(reader: &mut Reader<'a>, width: u8) -> Result<DataValue<'a>, Stop>
+fn address_value<'a>(reader: &mut Reader<'_, 'a>, width: u8) -> Result<DataValue<'a>, Stop>
     ensures { Reads (spec.address_value width) reader.old result reader.new }
 {
     if width != 8 {
@@ -184,7 +188,7 @@ fn front(bytes: &[u8], count: usize) -> &[u8]
 
 /// Reads a `GLOBL` behind its word.
 #[tactic(auto, unfolding(crate::specs::Directives::global))]
-pub fn read_global<'a>(reader: &mut Reader<'a>) -> Result<GlobalLine<'a>, Stop>
+pub fn read_global<'a>(reader: &mut Reader<'_, 'a>) -> Result<GlobalLine<'a>, Stop>
     ensures { Reads spec.global reader.old result reader.new }
 {
     let symbol = read_symbol(reader)?;
@@ -200,7 +204,7 @@ pub fn read_global<'a>(reader: &mut Reader<'a>) -> Result<GlobalLine<'a>, Stop>
 
 // The flags of a `GLOBL`, where they aren't left out, and the `$` of its size.
 #[tactic(auto, unfolding(crate::specs::Directives::global_flags))]
-fn read_global_flags(reader: &mut Reader<'_>) -> Result<u32, Stop>
+fn read_global_flags(reader: &mut Reader<'_, '_>) -> Result<u32, Stop>
     ensures { Reads spec.global_flags reader.old result reader.new }
 {
     if reader.eat(b"$") {
@@ -214,7 +218,7 @@ fn read_global_flags(reader: &mut Reader<'_>) -> Result<u32, Stop>
 
 // `name(SB)` or `name<>(SB)`.
 #[tactic(auto, unfolding(crate::specs::Directives::symbol))]
-fn read_symbol<'a>(reader: &mut Reader<'a>) -> Result<SymbolName<'a>, Stop>
+fn read_symbol<'a>(reader: &mut Reader<'_, 'a>) -> Result<SymbolName<'a>, Stop>
     ensures { Reads spec.symbol reader.old result reader.new }
 {
     let name = reader.word()?;
@@ -225,7 +229,7 @@ fn read_symbol<'a>(reader: &mut Reader<'a>) -> Result<SymbolName<'a>, Stop>
 
 // `name+e(SB)` or `name<>+e(SB)`.
 #[tactic(auto, unfolding(crate::specs::Directives::place))]
-fn read_place<'a>(reader: &mut Reader<'a>) -> Result<(SymbolName<'a>, u64), Stop>
+fn read_place<'a>(reader: &mut Reader<'_, 'a>) -> Result<(SymbolName<'a>, u64), Stop>
     ensures { Reads spec.place reader.old result reader.new }
 {
     let name = reader.word()?;
@@ -236,7 +240,7 @@ fn read_place<'a>(reader: &mut Reader<'a>) -> Result<(SymbolName<'a>, u64), Stop
 }
 
 #[tactic(auto, unfolding(crate::specs::Directives::static_base))]
-fn expect_static_base(reader: &mut Reader<'_>) -> Result<(), Stop>
+fn expect_static_base(reader: &mut Reader<'_, '_>) -> Result<(), Stop>
     ensures { Reads spec.static_base reader.old result reader.new }
 {
     reader.expect(b"(")?;
@@ -248,7 +252,7 @@ fn expect_static_base(reader: &mut Reader<'_>) -> Result<(), Stop>
 }
 
 #[tactic(auto, unfolding(crate::specs::Directives::flags))]
-fn read_flags(reader: &mut Reader<'_>) -> Result<u32, Stop>
+fn read_flags(reader: &mut Reader<'_, '_>) -> Result<u32, Stop>
     ensures { Reads spec.flags reader.old result reader.new }
 {
     let flags = read_expression(reader)?;
@@ -260,7 +264,7 @@ fn read_flags(reader: &mut Reader<'_>) -> Result<u32, Stop>
 
 // A size in a `TEXT`: a single number below 2^31.
 #[tactic(auto, unfolding(crate::specs::Directives::size))]
-fn read_size(reader: &mut Reader<'_>) -> Result<u32, Stop>
+fn read_size(reader: &mut Reader<'_, '_>) -> Result<u32, Stop>
     ensures read { Reads spec.size reader.old result reader.new }
     ensures small { IfOk result (λ size. size < 2 ^ 31) }
 {

@@ -13,7 +13,7 @@ const MOST_NESTED: usize = 100;
 
 /// Reads an expression: numbers of 64 bits with operators and brackets.
 #[tactic(auto, unfolding(crate::specs::Expressions::expression))]
-pub fn read_expression(reader: &mut Reader<'_>) -> Result<u64, Stop>
+pub fn read_expression(reader: &mut Reader<'_, '_>) -> Result<u64, Stop>
     ensures { Reads spec.expression reader.old result reader.new }
 {
     sum(reader, MOST_NESTED)
@@ -21,7 +21,7 @@ pub fn read_expression(reader: &mut Reader<'_>) -> Result<u64, Stop>
 
 #[cycle(expression)]
 #[tactic(auto, unfolding(crate::specs::Expressions::chain), using(crate::proofs::Repeats::starts, crate::proofs::Repeats::is_done))]
-fn sum(reader: &mut Reader<'_>, depth: usize) -> Result<u64, Stop>
+fn sum(reader: &mut Reader<'_, '_>, depth: usize) -> Result<u64, Stop>
     ensures { Reads (spec.sum (spec.bracketed depth)) reader.old result reader.new }
 {
     let mut value = product(reader, depth)?;
@@ -34,7 +34,7 @@ fn sum(reader: &mut Reader<'_>, depth: usize) -> Result<u64, Stop>
 
 #[cycle(expression)]
 #[tactic(auto, unfolding(crate::specs::Expressions::chain), using(crate::proofs::Repeats::starts, crate::proofs::Repeats::is_done))]
-fn product(reader: &mut Reader<'_>, depth: usize) -> Result<u64, Stop>
+fn product(reader: &mut Reader<'_, '_>, depth: usize) -> Result<u64, Stop>
     ensures { Reads (spec.product (spec.bracketed depth)) reader.old result reader.new }
 {
     let mut value = factor(reader, depth)?;
@@ -47,7 +47,7 @@ fn product(reader: &mut Reader<'_>, depth: usize) -> Result<u64, Stop>
 
 #[cycle(expression)]
 #[tactic(auto, unfolding(crate::specs::Expressions::factor))]
-fn factor(reader: &mut Reader<'_>, depth: usize) -> Result<u64, Stop>
+fn factor(reader: &mut Reader<'_, '_>, depth: usize) -> Result<u64, Stop>
     ensures { Reads (spec.factor (spec.bracketed depth)) reader.old result reader.new }
 {
     let signs = reader.prefixes();
@@ -57,7 +57,7 @@ fn factor(reader: &mut Reader<'_>, depth: usize) -> Result<u64, Stop>
 
 #[cycle(expression)]
 #[tactic(auto, unfolding(crate::specs::Expressions::primary))]
-fn primary(reader: &mut Reader<'_>, depth: usize) -> Result<u64, Stop>
+fn primary(reader: &mut Reader<'_, '_>, depth: usize) -> Result<u64, Stop>
     ensures { Reads (spec.primary (spec.bracketed depth)) reader.old result reader.new }
 {
     if !reader.eat(b"(") {
@@ -72,7 +72,7 @@ fn primary(reader: &mut Reader<'_>, depth: usize) -> Result<u64, Stop>
 }
 
 // The value with its signs before it, of which the one next to it counts first.
-fn prefixed_by_all(value: u64, signs: &[Token]) -> u64
+fn prefixed_by_all(value: u64, signs: &[Token<'_>]) -> u64
     ensures { result ≡ fold spec.prefixed_by value (reverse signs.now) }
 {
     signs
@@ -82,7 +82,7 @@ fn prefixed_by_all(value: u64, signs: &[Token]) -> u64
 }
 
 // The value of an operation. A zero divisor is noted, and the value then never used.
-fn noted(reader: &mut Reader<'_>, operator: Operator, left: u64, right: u64) -> u64
+fn noted(reader: &mut Reader<'_, '_>, operator: Operator, left: u64, right: u64) -> u64
     ensures { Takes (spec.or_noted (operators.applied operator left right)) reader.old result reader.new }
 {
     match applied(operator, left, right) {

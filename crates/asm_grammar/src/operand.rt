@@ -10,7 +10,7 @@ use crate::word::Word;
 
 /// Reads an operand.
 #[tactic(auto, unfolding(crate::specs::Operands::operand))]
-pub fn read_operand<'a>(reader: &mut Reader<'a>) -> Result<Draft<'a>, Stop>
+pub fn read_operand<'a>(reader: &mut Reader<'_, 'a>) -> Result<Draft<'a>, Stop>
     ensures { Reads spec.operand reader.old result reader.new }
 {
     let address = reader.eat(b"$");
@@ -34,7 +34,7 @@ pub fn read_operand<'a>(reader: &mut Reader<'a>) -> Result<Draft<'a>, Stop>
 
 // What begins with a name that has no `$` before it.
 #[tactic(auto, unfolding(crate::specs::Operands::behind_name))]
-fn behind_name<'a>(reader: &mut Reader<'a>, name: Word<'a>) -> Result<Draft<'a>, Stop>
+fn behind_name<'a>(reader: &mut Reader<'_, 'a>, name: Word<'a>) -> Result<Draft<'a>, Stop>
     ensures { Reads (spec.behind_name name.entry) reader.old result reader.new }
 {
     if reader.is_over() {
@@ -48,7 +48,7 @@ fn behind_name<'a>(reader: &mut Reader<'a>, name: Word<'a>) -> Result<Draft<'a>,
 
 // `R<<n` and its kin, behind the sign.
 #[tactic(auto, unfolding(crate::specs::Operands::shifted))]
-fn shifted<'a>(reader: &mut Reader<'a>, kind: u8, name: Word<'a>) -> Result<Draft<'a>, Stop>
+fn shifted<'a>(reader: &mut Reader<'_, 'a>, kind: u8, name: Word<'a>) -> Result<Draft<'a>, Stop>
     ensures { Reads (spec.shifted kind name.entry) reader.old result reader.new }
 {
     let amount = read_expression(reader)?;
@@ -64,7 +64,7 @@ fn shifted<'a>(reader: &mut Reader<'a>, kind: u8, name: Word<'a>) -> Result<Draf
 
 // `name+e(SB)` and its kin, behind the name.
 #[tactic(auto, unfolding(crate::specs::Operands::named))]
-fn named<'a>(reader: &mut Reader<'a>, address: bool, name: Word<'a>) -> Result<Draft<'a>, Stop>
+fn named<'a>(reader: &mut Reader<'_, 'a>, address: bool, name: Word<'a>) -> Result<Draft<'a>, Stop>
     ensures { Reads (spec.named address name.entry) reader.old result reader.new }
 {
     let fixed = reader.eat(b"<>");
@@ -99,7 +99,7 @@ fn based<'a>(
 
 /// Reads `+e` or `-e` where one of them is next; otherwise it is 0.
 #[tactic(auto, unfolding(crate::specs::Operands::offset))]
-pub fn read_offset(reader: &mut Reader<'_>) -> Result<u64, Stop>
+pub fn read_offset(reader: &mut Reader<'_, '_>) -> Result<u64, Stop>
     ensures { Reads spec.offset reader.old result reader.new }
 {
     if reader.sees_offset() {
@@ -111,7 +111,7 @@ pub fn read_offset(reader: &mut Reader<'_>) -> Result<u64, Stop>
 
 // A constant behind its `$`. With a base it would be an argument's address without a name.
 #[tactic(auto, unfolding(crate::specs::Operands::constant))]
-fn constant<'a>(reader: &mut Reader<'a>) -> Result<Draft<'a>, Stop>
+fn constant<'a>(reader: &mut Reader<'_, 'a>) -> Result<Draft<'a>, Stop>
     ensures { Reads spec.constant reader.old result reader.new }
 {
     let (_, value) = read_distance(reader)?;
@@ -128,7 +128,7 @@ fn constant<'a>(reader: &mut Reader<'a>) -> Result<Draft<'a>, Stop>
 
 // The expression before a base, 0 where it is left out; and whether it is.
 #[tactic(auto, unfolding(crate::specs::Operands::distance))]
-fn read_distance(reader: &mut Reader<'_>) -> Result<(bool, u64), Stop>
+fn read_distance(reader: &mut Reader<'_, '_>) -> Result<(bool, u64), Stop>
     ensures { Reads spec.distance reader.old result reader.new }
 {
     if reader.sees_base() {
@@ -140,7 +140,7 @@ fn read_distance(reader: &mut Reader<'_>) -> Result<(bool, u64), Stop>
 
 // `e(R)` and what else begins neither with `$` nor with a name.
 #[tactic(auto, unfolding(crate::specs::Operands::memory))]
-fn memory<'a>(reader: &mut Reader<'a>) -> Result<Draft<'a>, Stop>
+fn memory<'a>(reader: &mut Reader<'_, 'a>) -> Result<Draft<'a>, Stop>
     ensures { Reads spec.memory reader.old result reader.new }
 {
     let (omitted, value) = read_distance(reader)?;
@@ -155,7 +155,7 @@ fn memory<'a>(reader: &mut Reader<'a>) -> Result<Draft<'a>, Stop>
 
 // `(R1, R2)` behind its comma.
 #[tactic(auto, unfolding(crate::specs::Operands::pair))]
-fn pair<'a>(reader: &mut Reader<'a>, first: Word<'a>) -> Result<Draft<'a>, Stop>
+fn pair<'a>(reader: &mut Reader<'_, 'a>, first: Word<'a>) -> Result<Draft<'a>, Stop>
     ensures { Reads (spec.pair first.entry) reader.old result reader.new }
 {
     let second = reader.word()?;
@@ -165,7 +165,7 @@ fn pair<'a>(reader: &mut Reader<'a>, first: Word<'a>) -> Result<Draft<'a>, Stop>
 
 // What an offset means behind this base.
 #[tactic(auto, unfolding(crate::specs::Operands::at_base))]
-fn at_base<'a>(reader: &mut Reader<'a>, off: i64, base: Word<'a>) -> Result<Draft<'a>, Stop>
+fn at_base<'a>(reader: &mut Reader<'_, 'a>, off: i64, base: Word<'a>) -> Result<Draft<'a>, Stop>
     ensures { Reads (spec.at_base off base.entry) reader.old result reader.new }
 {
     match base.as_slice() {
@@ -180,7 +180,7 @@ fn at_base<'a>(reader: &mut Reader<'a>, off: i64, base: Word<'a>) -> Result<Draf
 }
 
 #[tactic(auto, unfolding(crate::specs::Operands::in_memory))]
-fn in_memory<'a>(reader: &mut Reader<'a>, off: i64, base: Word<'a>) -> Result<Draft<'a>, Stop>
+fn in_memory<'a>(reader: &mut Reader<'_, 'a>, off: i64, base: Word<'a>) -> Result<Draft<'a>, Stop>
     ensures { Reads (spec.in_memory off base.entry) reader.old result reader.new }
 {
     let index = read_index(reader)?;
@@ -189,7 +189,7 @@ fn in_memory<'a>(reader: &mut Reader<'a>, off: i64, base: Word<'a>) -> Result<Dr
 
 // `(I*s)` behind a base, where it stands there.
 #[tactic(auto, unfolding(crate::specs::Operands::index))]
-fn read_index<'a>(reader: &mut Reader<'a>) -> Result<Option<(Word<'a>, u8)>, Stop>
+fn read_index<'a>(reader: &mut Reader<'_, 'a>) -> Result<Option<(Word<'a>, u8)>, Stop>
     ensures { Reads spec.index reader.old result reader.new }
 {
     if !reader.eat(b"(") {
@@ -204,7 +204,7 @@ fn read_index<'a>(reader: &mut Reader<'a>) -> Result<Option<(Word<'a>, u8)>, Sto
 
 /// Reads a number that is 1, 2, 4 or 8.
 #[tactic(auto, unfolding(crate::specs::Operands::width))]
-pub fn read_width(reader: &mut Reader<'_>) -> Result<u8, Stop>
+pub fn read_width(reader: &mut Reader<'_, '_>) -> Result<u8, Stop>
     ensures { Reads spec.width reader.old result reader.new }
 {
     match reader.number()? {

@@ -14,14 +14,14 @@ use std::marker::Model;
 
 /// A statement that is read from left to right.
 #[derive(Drop)]
-pub struct Reader<'a> {
+pub struct Reader<'t, 'a> {
     // The tokens that are left.
-    rest: &'a [Token],
+    rest: &'t [Token<'a>],
     // The lowest cause that was found.
     found: Option<Cause>,
 }
 
-impl<'a> Model for Reader<'a> {
+impl<'t, 'a> Model for Reader<'t, 'a> {
     ghost use Rattle.asm_grammar.specs.Reader.{Reading};
 
     ghost Value = { Reading };
@@ -29,9 +29,9 @@ impl<'a> Model for Reader<'a> {
     ghost view = { λ r. record { rest = r.rest.now; found = r.found } };
 }
 
-impl<'a> Reader<'a> {
+impl<'t, 'a> Reader<'t, 'a> {
     /// A reader at the first of these tokens.
-    pub fn new(rest: &'a [Token]) -> Self
+    pub fn new(rest: &'t [Token<'a>]) -> Self
         ensures { result ≡ record { rest = rest.now; found = None } }
     {
         Reader { rest, found: None }
@@ -226,16 +226,17 @@ impl<'a> Reader<'a> {
 
     /// Takes the signs before a value.
     #[tactic(auto, unfolding(crate::specs::Expressions::prefixes))]
-    pub fn prefixes(&mut self) -> &'a [Token]
+    pub fn prefixes(&mut self) -> &'t [Token<'a>]
         ensures { Takes expressions.prefixes self.old result.now self.new }
     {
-        let (signs, rest) = self.rest.split_at(prefix_count(self.rest));
-        self.rest = rest;
+        let count = prefix_count(self.rest);
+        let signs = &self.rest[..count];
+        self.rest = &self.rest[count..];
         signs
     }
 }
 
-fn prefix_count(tokens: &[Token]) -> usize
+fn prefix_count(tokens: &[Token<'_>]) -> usize
     ensures len { result ≡ prefix_len expressions.is_prefix_token tokens.now }
     ensures within { result ≤ length tokens.now }
 {
@@ -245,7 +246,7 @@ fn prefix_count(tokens: &[Token]) -> usize
         .count()
 }
 
-fn is_prefix_token(token: &Token) -> bool
+fn is_prefix_token(token: &Token<'_>) -> bool
     ensures { result ≡ expressions.is_prefix_token token.now }
 {
     match token.kind {
@@ -254,7 +255,7 @@ fn is_prefix_token(token: &Token) -> bool
     }
 }
 
-fn is_sign(token: &Token, sign: &[u8]) -> bool
+fn is_sign(token: &Token<'_>, sign: &[u8]) -> bool
     ensures { result ≡ tokens.is_sign sign.now token.now }
 {
     match token.kind {
@@ -263,19 +264,19 @@ fn is_sign(token: &Token, sign: &[u8]) -> bool
     }
 }
 
-fn is_word(token: &Token) -> bool
+fn is_word(token: &Token<'_>) -> bool
     ensures { result ≡ tokens.is_word token.now }
 {
     matches!(token.kind, Kind::Word)
 }
 
-fn is_text(token: &Token) -> bool
+fn is_text(token: &Token<'_>) -> bool
     ensures { result ≡ tokens.is_text token.now }
 {
     matches!(token.kind, Kind::Text)
 }
 
-fn operator_in(group: Group, token: &Token) -> Option<Operator>
+fn operator_in(group: Group, token: &Token<'_>) -> Option<Operator>
     ensures { result ≡ spec.operator_in group (tokens.sign_of token.now) }
 {
     match token.kind {
@@ -284,7 +285,7 @@ fn operator_in(group: Group, token: &Token) -> Option<Operator>
     }
 }
 
-fn shift_in(token: &Token) -> Option<u8>
+fn shift_in(token: &Token<'_>) -> Option<u8>
     ensures { result ≡ spec.shift_in (tokens.sign_of token.now) }
 {
     match token.kind {

@@ -43,7 +43,7 @@ pub struct CodeLine<'a> {
 
 /// Reads a statement, all of it.
 #[tactic(auto, unfolding(crate::specs::Statements::statement))]
-pub fn read_statement<'a>(alloc: Global, reader: &mut Reader<'a>) -> Result<Statement<'a>, Stop>
+pub fn read_statement<'a>(alloc: Global, reader: &mut Reader<'_, 'a>) -> Result<Statement<'a>, Stop>
     ensures read { Reads spec.statement reader.old result reader.new }
     ensures sized { IfOk result (λ statement. spec.HasSizes statement.form) }
     ensures few { IfOk result (λ statement. spec.operand_count statement.form ≤ length reader.old.rest + 1) }
@@ -57,7 +57,7 @@ pub fn read_statement<'a>(alloc: Global, reader: &mut Reader<'a>) -> Result<Stat
 }
 
 #[tactic(auto, unfolding(crate::specs::Statements::labels), using(crate::proofs::Repeats::starts, crate::proofs::Repeats::is_done))]
-fn read_labels<'a>(alloc: Global, reader: &mut Reader<'a>) -> Result<List<Word<'a>>, Stop>
+fn read_labels<'a>(alloc: Global, reader: &mut Reader<'_, 'a>) -> Result<List<Word<'a>>, Stop>
     ensures { Reads spec.labels reader.old result reader.new }
 {
     let mut labels = Vec::new(alloc);
@@ -68,7 +68,7 @@ fn read_labels<'a>(alloc: Global, reader: &mut Reader<'a>) -> Result<List<Word<'
 }
 
 #[tactic(auto, unfolding(crate::specs::Statements::form))]
-fn read_form<'a>(alloc: Global, reader: &mut Reader<'a>) -> Result<Form<'a>, Stop>
+fn read_form<'a>(alloc: Global, reader: &mut Reader<'_, 'a>) -> Result<Form<'a>, Stop>
     ensures read { Reads spec.form reader.old result reader.new }
     ensures sized { IfOk result (λ form. spec.HasSizes form) }
     ensures few { IfOk result (λ form. spec.operand_count form ≤ length reader.old.rest + 1) }
@@ -87,7 +87,7 @@ fn read_form<'a>(alloc: Global, reader: &mut Reader<'a>) -> Result<Form<'a>, Sto
 }
 
 #[tactic(auto, unfolding(crate::specs::Statements::code))]
-fn read_code<'a>(alloc: Global, reader: &mut Reader<'a>, op: Word<'a>) -> Result<Form<'a>, Stop>
+fn read_code<'a>(alloc: Global, reader: &mut Reader<'_, 'a>, op: Word<'a>) -> Result<Form<'a>, Stop>
     ensures read { Reads (spec.code op.entry) reader.old result reader.new }
     ensures sized { IfOk result (λ form. spec.HasSizes form) }
     ensures few { IfOk result (λ form. spec.operand_count form ≤ length reader.old.rest + 1) }
@@ -112,7 +112,7 @@ fn is_raw(op: &[u8]) -> bool
 }
 
 #[tactic(auto, unfolding(crate::specs::Statements::suffix))]
-fn read_suffix(reader: &mut Reader<'_>) -> Result<Option<u8>, Stop>
+fn read_suffix(reader: &mut Reader<'_, '_>) -> Result<Option<u8>, Stop>
     ensures { Reads spec.suffix reader.old result reader.new }
 {
     if !reader.eat(b".") {
@@ -126,7 +126,7 @@ fn read_suffix(reader: &mut Reader<'_>) -> Result<Option<u8>, Stop>
 }
 
 #[tactic(auto, unfolding(crate::specs::Statements::operands), using(crate::proofs::Repeats::starts, crate::proofs::Repeats::is_done, crate::proofs::Listed::not_begun))]
-fn read_operands<'a>(alloc: Global, reader: &mut Reader<'a>) -> Result<List<Draft<'a>>, Stop>
+fn read_operands<'a>(alloc: Global, reader: &mut Reader<'_, 'a>) -> Result<List<Draft<'a>>, Stop>
     ensures read { Reads spec.operands reader.old result reader.new }
     // Each but the first has a comma before it.
     ensures few { IfOk result (λ operands. length operands ≤ length reader.old.rest + 1) }

@@ -7,8 +7,9 @@ ghost use Rattle.asm_lex.specs.Places.{point_of};
 use crate::fault::{Fault, earlier};
 use crate::lines::line_after;
 use crate::piece::{Class, Piece, piece_of};
+use crate::spelling::Spelling;
 use crate::token::{Kind, Token};
-use goasm_base::{Memory, Name, Pos};
+use goasm_base::{Memory, Pos};
 use std::alloc::Global;
 
 /// A place in a source.
@@ -23,20 +24,20 @@ pub struct Place<'a> {
 
 /// A source that is cut, or the front of one.
 #[derive(Drop)]
-pub struct Cut {
-    pub tokens: Vec<Token>,
+pub struct Cut<'a> {
+    pub tokens: Vec<Token<'a>>,
     /// The first of the places that are refused.
     pub fault: Option<Fault>,
 }
 
 /// Cuts a source into its pieces, with a fault that is known already.
 #[tactic(auto, unfolding(crate::specs::Cut::cut_of, crate::specs::Cut::cut_within))]
-pub fn cut_source(
+pub fn cut_source<'a>(
     alloc: Global,
     file: u32,
-    bytes: &[u8],
+    bytes: &'a [u8],
     known: Option<Fault>,
-) -> Result<Cut, Memory>
+) -> Result<Cut<'a>, Memory>
     ensures tokens { IfOk result (λ cut. cut.tokens.items ≡ (cut_of file bytes.now).tokens) }
     ensures fault { IfOk result
         (λ cut. cut.fault ≡ first_after known (cut_of file bytes.now).faults) }
@@ -56,10 +57,10 @@ pub fn cut_source(
             break;
         }
         let piece = piece_of(place.rest);
-        cut.add(alloc, file, &place, piece)?;
+        cut.add(file, &place, piece)?;
         place = place_behind(&place, piece);
     }
-    cut.end(alloc, file, &place)?;
+    cut.end(file, &place)?;
     Ok(cut)
 }
 
@@ -81,15 +82,9 @@ fn is_part(class: Class) -> bool
     matches!(class, Class::Part(_))
 }
 
-impl Cut {
+impl<'a> Cut<'a> {
     // Adds a piece: its token, or its fault.
-    fn add(
-        &mut self,
-        alloc: Global,
-        file: u32,
-        place: &Place<'_>,
-        piece: Piece,
-    ) -> Result<(), Memory>
+    fn add(&mut self, file: u32, place: &Place<'a>, piece: Piece) -> Result<(), Memory>
         requires { piece.len ≤ length place.now.rest.now }
         ensures tokens { OnOk result (self.new.tokens.items ≡ self.old.tokens.items
             ++ tokens_at file (point_of place.now) piece.class (take piece.len place.now.rest.now)) }
@@ -99,8 +94,8 @@ impl Cut {
         match piece.class {
             Class::Gap => {}
             Class::Part(kind) => {
-                let token = token_at(alloc, file, place, kind, &place.rest[..piece.len])?;
-                self.tokens.push(token)?;
+                let text = &place.rest[..piece.len];
+                self.tokens.push(token_at(file, place, kind, text))?;
             }
             Class::Wrong(cause) => {
                 let fault = Fault {
@@ -114,33 +109,26 @@ impl Cut {
     }
 
     // Adds the end of the file, which counts as one newline more.
-    fn end(&mut self, alloc: Global, file: u32, place: &Place<'_>) -> Result<(), Memory>
+    fn end(&mut self, file: u32, place: &Place<'_>) -> Result<(), Memory>
         ensures tokens { OnOk result (self.new.tokens.items
             ≡ self.old.tokens.items ++ (spec.end_at file (point_of place.now)).tokens) }
         ensures fault { OnOk result (self.new.fault ≡ self.old.fault) }
     {
-        let token = token_at(alloc, file, place, Kind::End, b"\n")?;
-        self.tokens.push(token)?;
+        self.tokens.push(token_at(file, place, Kind::End, b"\n"))?;
         Ok(())
     }
 }
 
-fn token_at(
-    alloc: Global,
-    file: u32,
-    place: &Place<'_>,
-    kind: Kind,
-    text: &[u8],
-) -> Result<Token, Memory>
-    ensures { IfOk result (λ token. token ≡ spec.token_at file (point_of place.now) kind text.now) }
+fn token_at<'a>(file: u32, place: &Place<'_>, kind: Kind, text: &'a [u8]) -> Token<'a>
+    ensures { result ≡ spec.token_at file (point_of place.now) kind text.now }
 {
-    Ok(Token {
+    Token {
         pos: Pos {
             file,
             line: place.line,
         },
         glued: place.glued,
         kind,
-        text: Name::from_slice(alloc, text)?,
-    })
+        text: Spelling::new(text),
+    }
 }

@@ -20,7 +20,7 @@ use std::alloc::Global;
 /// comment counts at the line where it begins, and at one line the refusal with the lowest number. Only want of
 /// memory may come in place of any answer.
 #[tactic(auto, using(crate::proofs::CutLemmas::first_of_all, crate::proofs::FormLemmas::cut_formed, crate::proofs::FirstLemmas::refused_first, crate::proofs::FirstLemmas::none_found, crate::proofs::PlaceLemmas::tokens_in, crate::proofs::PlaceLemmas::tokens_few, crate::proofs::PlaceLemmas::refusal_in))]
-pub fn lex(alloc: Global, file: u32, bytes: &[u8]) -> Result<Tokens, LexNo>
+pub fn lex<'a>(alloc: Global, file: u32, bytes: &'a [u8]) -> Result<Tokens<'a>, LexNo>
     ensures exact { Judges LexNo.Memory result (refusal_of file bytes.now) }
     ensures first { IfErr result (λ no. no ≢ LexNo.Memory → IsFirstRefusal file (faults_of file bytes.now) no) }
     ensures none { OnOk result (faults_of file bytes.now ≡ []) }

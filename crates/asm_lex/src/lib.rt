@@ -12,10 +12,12 @@ mod numbers;
 mod piece;
 mod refusal;
 mod signs;
+mod spelling;
 mod texts;
 mod token;
 mod words;
 
 pub use lexer::lex;
 pub use refusal::LexNo;
+pub use spelling::Spelling;
 pub use token::{Kind, Token, Tokens};

@@ -1,4 +1,5 @@
-use goasm_base::{List, Name, Pos};
+use crate::spelling::Spelling;
+use goasm_base::{List, Pos};
 
 /// What a token is.
 #[derive(Clone, Copy, Debug, PartialEq, Eq)]
@@ -15,9 +16,9 @@ pub enum Kind {
     End,
 }
 
-/// A token of a source.
+/// A token of a source, whose bytes it borrows.
 #[derive(Debug, Drop)]
-pub struct Token {
+pub struct Token<'a> {
     /// The file, and the line on which it stands.
     pub pos: Pos,
     /// Whether another token ends directly before it.
@@ -26,14 +27,14 @@ pub struct Token {
     pub kind: Kind,
     /// Its bytes as they are written, a text's with its quotes and escapes. An end's are `;` or a newline, also at
     /// the end of a file.
-    pub text: Name,
+    pub text: Spelling<'a>,
 }
 
 /// The tokens of one file, in their order.
 #[derive(Debug, Drop)]
-pub struct Tokens {
+pub struct Tokens<'a> {
     /// The file's number in the build.
     pub file: u32,
     /// The tokens. The last one is an end.
-    pub list: List<Token>,
+    pub list: List<Token<'a>>,
 }

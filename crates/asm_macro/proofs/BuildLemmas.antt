@@ -1,10 +1,10 @@
 -- Loops over the files of a build.
-use Rattle.std.proofs.Common.{◌≡◌, ℕ, suc, ◌+◌, ◌<◌, Bool, true, false, ◌||◌, max, List, [], ◌∷◌, ◌++◌, drop, length, get_or, Option, Some, None, is_some, Result, Ok, Err, if◌then◌else◌, refl, sym, ap, ◌∙◌, add-one, drop-cons, append_assoc, append-nil, ◌≤◌}
-use Rattle.std.specs.Borrow.{Bor}
+use Rattle.std.proofs.Common.{◌≡◌, ℕ, suc, ◌+◌, ◌<◌, Bool, true, false, max, List, [], ◌∷◌, ◌++◌, drop, length, get_or, Option, Some, None, is_some, Result, Ok, Err, if◌then◌else◌, refl, sym, ap, ◌∙◌, add-one, drop-cons, append_assoc, append-nil, ◌≤◌}
 use Rattle.std.specs.Option.{option_map}
 use Rattle.std.proofs.lemmas.List.{drop_all}
 use Rattle.asm_lex.specs.declared.token.Token.{Token}
 use Rattle.asm_lex.specs.declared.token.Tokens.{Tokens}
+use Rattle.asm_macro.specs.declared.files.Included.{Included}
 use Rattle.asm_macro.specs.declared.macros.Macro.{Macro}
 use Rattle.asm_directive.specs.declared.names.NameMap.{NameMap}
 use Rattle.asm_macro.specs.declared.refusal.MacroNo.{MacroNo}
@@ -14,7 +14,7 @@ use Rattle.asm_macro.specs.Refusals.{◌>>=◌}
 use Rattle.asm_macro.specs.Files.{Context, State, read_file}
 use Rattle.asm_macro.specs.Builds.{greatest, included, defined, value_definition, start_state, expand_sources}
 use Rattle.asm_directive.specs.Views.{names_of}
-use Rattle.asm_macro.specs.Views.{definition_of, macros_in, files_in, entered_of}
+use Rattle.asm_macro.specs.Views.{definition_of, macros_in, files_in, file_in}
 use Rattle.asm_macro.proofs.MacroNameLemmas.{map_name}
 
 pub greatest_append : (most : ℕ) (one other : List ℕ) → greatest most (one ++ other) ≡ greatest (greatest most one) other
@@ -52,32 +52,32 @@ given_next before after defines index item macro whole inside is none made puts 
     ap (λ definitions. defined definitions (drop (index + 1) defines)) same ∙ step
 
 -- a file that is included, where no earlier one has its name
-chosen_file : (there : Bool) (before after : Names (Bor (List Token))) (name : List ℕ) (tokens : Bor (List Token))
-    → after ≡ (if there then before else with_name before name (Some tokens))
-    → (λ (other : List ℕ). entered_of (after other))
-    ≡ (if there then (λ (other : List ℕ). entered_of (before other)) else with_name (λ (other : List ℕ). entered_of (before other)) name (Some tokens.now))
-chosen_file true before after name tokens puts =
-    ap (λ (names : Names (Bor (List Token))). (λ (other : List ℕ). entered_of (names other))) puts
-chosen_file false before after name tokens puts =
-    ap (λ (names : Names (Bor (List Token))). (λ (other : List ℕ). entered_of (names other))) puts
-    ∙ map_name (λ tokens. tokens.now) before name (Some tokens)
+chosen_file : (there : Bool) (before after : Names Included) (name : List ℕ) (file : Included)
+    → after ≡ (if there then before else with_name before name (Some file))
+    → (λ (other : List ℕ). file_in (after other))
+    ≡ (if there then (λ (other : List ℕ). file_in (before other)) else with_name (λ (other : List ℕ). file_in (before other)) name (Some file.tokens.now))
+chosen_file true before after name file puts =
+    ap (λ (names : Names Included). (λ (other : List ℕ). file_in (names other))) puts
+chosen_file false before after name file puts =
+    ap (λ (names : Names Included). (λ (other : List ℕ). file_in (names other))) puts
+    ∙ map_name (λ included. included.tokens.now) before name (Some file)
 
 next_file : (files : Names (List Token)) (item : List ℕ × Tokens) → Names (List Token)
 next_file files item = if is_some (files item.0) then files else with_name files item.0 (Some item.1.list)
 
-pub included_next : (before after : NameMap (Bor (List Token))) (includes : List (List ℕ × Tokens)) (index : ℕ) (item : List ℕ × Tokens) (tokens : Bor (List Token)) (whole : Names (List Token))
-    → index < length includes → item ≡ get_or includes index item → tokens.now ≡ item.1.list
-    → names_of after ≡ (if is_some (names_of before item.0) then names_of before else with_name (names_of before) item.0 (Some tokens))
+pub included_next : (before after : NameMap Included) (includes : List (List ℕ × Tokens)) (index : ℕ) (item : List ℕ × Tokens) (file : Included) (whole : Names (List Token))
+    → index < length includes → item ≡ get_or includes index item → file.tokens.now ≡ item.1.list
+    → names_of after ≡ (if is_some (names_of before item.0) then names_of before else with_name (names_of before) item.0 (Some file))
     → included (files_in before) (drop index includes) ≡ whole → included (files_in after) (drop (index + 1) includes) ≡ whole
 unfolding included next_file
-included_next before after includes index item tokens whole inside is list puts known =
+included_next before after includes index item file whole inside is list puts known =
     let first : drop index includes ≡ item ∷ drop (index + 1) includes
     = drop-cons includes index item inside ∙ ap (λ here. here ∷ drop (suc index) includes) (sym is) ∙ ap (λ next. item ∷ drop next includes) (sym (add-one index)) in
     let step : included (next_file (files_in before) item) (drop (index + 1) includes) ≡ whole
     = sym (ap (λ files. included (files_in before) files) first) ∙ known in
     let same : files_in after ≡ next_file (files_in before) item
-    = chosen_file (is_some (names_of before item.0)) (names_of before) (names_of after) item.0 tokens puts
-    ∙ ap (λ (there : Bool). if there then files_in before else with_name (files_in before) item.0 (Some tokens.now)) (sym (some_map (λ tokens. tokens.now) (names_of before item.0)))
+    = chosen_file (is_some (names_of before item.0)) (names_of before) (names_of after) item.0 file puts
+    ∙ ap (λ (there : Bool). if there then files_in before else with_name (files_in before) item.0 (Some file.tokens.now)) (sym (some_map (λ included. included.tokens.now) (names_of before item.0)))
     ∙ ap (λ (named : List Token). if is_some (files_in before item.0) then files_in before else with_name (files_in before) item.0 (Some named)) list in
     ap (λ files. included files (drop (index + 1) includes)) same ∙ step
 

@@ -11,6 +11,7 @@ use Rattle.asm_macro.specs.declared.work.Produced.{Produced}
 use Rattle.asm_macro.specs.declared.work.Met as declared_met
 use Rattle.asm_macro.specs.declared.files.Position.{Position}
 use Rattle.asm_macro.specs.declared.files.Environment.{Environment}
+use Rattle.asm_macro.specs.declared.files.Included.{Included}
 use Rattle.asm_macro.specs.declared.files.Progress.{Progress}
 use Rattle.asm_macro.specs.declared.built_in.BuiltIn.{BuiltIn}
 use Rattle.asm_macro.specs.declared.built_in.BuiltIn.TheVariants.{Textflag, Funcdata}
@@ -70,9 +71,12 @@ state_of progress = record { definitions = definitions_of progress.macros; work 
 abbrev pub entered_of : Option (Bor (List Token)) → Option (List Token)
 entered_of entered = option_map (λ tokens. tokens.now) entered
 
+abbrev pub file_in : Option Included → Option (List Token)
+file_in file = option_map (λ included. included.tokens.now) file
+
 -- the files that a map has
-abbrev pub files_in : NameMap (Bor (List Token)) → Names (List Token)
-files_in files name = entered_of (names_of files name)
+abbrev pub files_in : NameMap Included → Names (List Token)
+files_in files name = file_in (names_of files name)
 
 unfoldable pub context_of : Environment → Context
 context_of environment = record { includes = files_in environment.includes; files = names_of environment.files }

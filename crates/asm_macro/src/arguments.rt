@@ -13,20 +13,20 @@ use std::mem::replace;
 
 /// The arguments of a use.
 #[derive(Drop)]
-pub struct Arguments {
-    pub lists: Vec<List<Placed>>,
+pub struct Arguments<'a> {
+    pub lists: Vec<List<Placed<'a>>>,
     /// How many levels may nest behind them.
     pub levels: usize,
 }
 
 /// Takes the arguments behind a name; nothing is taken where they are missing or open.
 #[tactic(auto, unfolding(crate::specs::Arguments::arguments_behind))]
-pub fn take_arguments(
+pub fn take_arguments<'a>(
     alloc: Global,
     parameters: &Option<ParameterMap<'_>>,
-    name: &Placed,
-    pending: &mut Pending,
-) -> Result<Option<Arguments>, Memory>
+    name: &Placed<'a>,
+    pending: &mut Pending<'a>,
+) -> Result<Option<Arguments<'a>>, Memory>
     ensures taken { IfOk result
         (λ taken. taken_by (parameters_if parameters.now) name.now pending.old ≡ taken_as taken pending.new) }
     ensures kept { IfOk result (λ taken. taken ≡ None → pending.new ≡ pending.old) }
@@ -58,7 +58,7 @@ pub enum Part {
 }
 
 #[tactic(auto, unfolding(crate::specs::Arguments::part_of))]
-fn part_of(nest: usize, placed: &Placed) -> Result<Part, Memory>
+fn part_of(nest: usize, placed: &Placed<'_>) -> Result<Part, Memory>
     ensures { IfOk result (λ part. part ≡ spec.part_of nest placed.now) }
 {
     if is_end(&placed.token) {
@@ -82,7 +82,7 @@ fn part_of(nest: usize, placed: &Placed) -> Result<Part, Memory>
 
 // The lists up to the closing bracket.
 #[tactic(auto, unfolding(crate::proofs::ArgumentLemmas::arguments_with), using(crate::proofs::ArgumentLemmas::from_is))]
-fn read_lists(alloc: Global, pending: &mut Pending) -> Result<Arguments, Memory>
+fn read_lists<'a>(alloc: Global, pending: &mut Pending<'a>) -> Result<Arguments<'a>, Memory>
     requires { IsSome (arguments_from 0 pending.old) }
     ensures { IfOk result (λ read. arguments_from 0 pending.old ≡ Some (arguments_of read pending.new)) }
 {
@@ -110,7 +110,7 @@ fn read_lists(alloc: Global, pending: &mut Pending) -> Result<Arguments, Memory>
 }
 
 /// Whether there are as many arguments as parameters.
-pub fn fits(parameters: &Option<ParameterMap<'_>>, lists: &[List<Placed>]) -> bool
+pub fn fits(parameters: &Option<ParameterMap<'_>>, lists: &[List<Placed<'_>>]) -> bool
     ensures { result ≡ fit (parameters_if parameters.now) lists.now }
 {
     match parameters {
@@ -120,7 +120,7 @@ pub fn fits(parameters: &Option<ParameterMap<'_>>, lists: &[List<Placed>]) -> bo
     }
 }
 
-fn is_blank(lists: &[List<Placed>]) -> bool
+fn is_blank(lists: &[List<Placed<'_>>]) -> bool
     ensures { result ≡ spec.is_blank lists.now }
 {
     match lists {

@@ -10,13 +10,13 @@ ghost use Rattle.asm_directive.specs.Views.{names_of};
 ghost use Rattle.asm_macro.specs.Views.{definition_of, macros_in, files_in, context_of, AreBuiltIn};
 
 use crate::built_in::Rows;
-use crate::files::{Environment, Progress, read_file};
+use crate::files::{Environment, Included, Progress, read_file};
 use crate::limits::Limits;
 use crate::macros::{Macro, Macros};
 use crate::refusal::MacroNo;
 use crate::work::Produced;
 use asm_directive::{NameMap, line_names};
-use asm_lex::{Token, Tokens};
+use asm_lex::Tokens;
 use goasm_base::{List, Memory, Name, Pos};
 use std::alloc::Global;
 
@@ -34,12 +34,12 @@ pub const LIMITS: Limits = Limits {
 /// statement the one with the lowest number. Only want of memory may come in place of any answer.
 ///
 /// A result or a refusal stands in a file of the build or one that `#line` names, where the tokens handed in do.
-pub fn expand(
+pub fn expand<'a>(
     alloc: Global,
-    sources: &[Tokens],
-    includes: &[(Name, Tokens)],
-    defines: &[(Name, Tokens)],
-) -> Result<Vec<Tokens>, MacroNo>
+    sources: &[Tokens<'a>],
+    includes: &[(Name, Tokens<'a>)],
+    defines: &[(Name, Tokens<'a>)],
+) -> Result<Vec<Tokens<'a>>, MacroNo>
     requires sources { All AreTokens sources.now }
     requires includes { All (λ include. AreTokens include.1) includes.now }
     requires defines { All (λ define. AreTokens define.1) defines.now }
@@ -59,13 +59,13 @@ pub fn expand(
 }
 
 /// The same where the caller has the names in `#line` directives, as `line_names` gives them.
-pub fn expand_named(
+pub fn expand_named<'a>(
     alloc: Global,
-    sources: &[Tokens],
-    includes: &[(Name, Tokens)],
-    defines: &[(Name, Tokens)],
+    sources: &[Tokens<'a>],
+    includes: &[(Name, Tokens<'a>)],
+    defines: &[(Name, Tokens<'a>)],
     names: &[Name],
-) -> Result<Vec<Tokens>, MacroNo>
+) -> Result<Vec<Tokens<'a>>, MacroNo>
     requires names { names.now ≡ line_names_of sources.now includes.now }
     requires sources { All AreTokens sources.now }
     requires includes { All (λ include. AreTokens include.1) includes.now }
@@ -86,13 +86,13 @@ pub fn expand_named(
 }
 
 /// The same under other limits.
-pub fn expand_within(
+pub fn expand_within<'a>(
     alloc: Global,
     limits: Limits,
-    sources: &[Tokens],
-    includes: &[(Name, Tokens)],
-    defines: &[(Name, Tokens)],
-) -> Result<Vec<Tokens>, MacroNo>
+    sources: &[Tokens<'a>],
+    includes: &[(Name, Tokens<'a>)],
+    defines: &[(Name, Tokens<'a>)],
+) -> Result<Vec<Tokens<'a>>, MacroNo>
     requires files { greatest_file sources.now includes.now defines.now + length (line_names_of sources.now includes.now) < 2 ^ 32 }
     ensures ok { IfOk result (λ all. spec.expansion limits sources.now includes.now defines.now ≡ Ok all.items) }
     ensures err { IfErr result (λ no. Refuses (spec.expansion limits sources.now includes.now defines.now) no) }
@@ -112,15 +112,15 @@ pub fn expand_within(
 
 // The same with the names in `#line` directives and the built-in files.
 #[tactic(auto, unfolding(crate::specs::Builds::expansion))]
-fn expand_over<'a>(
+fn expand_over<'t, 'a>(
     alloc: Global,
     limits: Limits,
-    sources: &'a [Tokens],
-    includes: &'a [(Name, Tokens)],
-    defines: &'a [(Name, Tokens)],
-    names: &'a [Name],
-    rows: &'a Rows,
-) -> Result<Vec<Tokens>, MacroNo>
+    sources: &'t [Tokens<'a>],
+    includes: &'t [(Name, Tokens<'a>)],
+    defines: &'t [(Name, Tokens<'a>)],
+    names: &'t [Name],
+    rows: &'t Rows<'a>,
+) -> Result<Vec<Tokens<'a>>, MacroNo>
     requires files { greatest_file sources.now includes.now defines.now + length names.now < 2 ^ 32 }
     requires names { names.now ≡ line_names_of sources.now includes.now }
     requires rows { AreBuiltIn rows.now }
@@ -137,13 +137,13 @@ fn expand_over<'a>(
 }
 
 // The sources one after the other.
-fn expand_sources<'a>(
+fn expand_sources<'t, 'a>(
     alloc: Global,
     limits: Limits,
-    environment: &Environment<'a>,
-    given: &NameMap<'a, Macro<'a>>,
-    sources: &'a [Tokens],
-) -> Result<Vec<Tokens>, MacroNo>
+    environment: &Environment<'t, 'a>,
+    given: &NameMap<'t, Macro<'t, 'a>>,
+    sources: &'t [Tokens<'a>],
+) -> Result<Vec<Tokens<'a>>, MacroNo>
     requires { AreBuiltIn environment.now.built_in.now }
     ensures ok { IfOk result (λ all. spec.expand_sources limits.nesting (context_of environment.now) (macros_in given.now)
         limits.tokens limits.uses sources.now ≡ Ok all.items) }
@@ -181,10 +181,10 @@ fn expand_sources<'a>(
 
 // The macros that a build defines before its sources.
 #[tactic(auto, unfolding(crate::specs::Builds::defined))]
-fn given_macros<'a>(
+fn given_macros<'t, 'a>(
     alloc: Global,
-    defines: &'a [(Name, Tokens)],
-) -> Result<NameMap<'a, Macro<'a>>, MacroNo>
+    defines: &'t [(Name, Tokens<'a>)],
+) -> Result<NameMap<'t, Macro<'t, 'a>>, MacroNo>
     ensures ok { IfOk result (λ macros. spec.defined nothing defines.now ≡ Ok (macros_in macros)) }
     ensures err { IfErr result (λ no. Refuses (spec.defined nothing defines.now) no) }
 {
@@ -199,7 +199,7 @@ fn given_macros<'a>(
 }
 
 // A macro of a value, whose body is all of it but its end.
-fn value_macro(tokens: &Tokens) -> Macro<'_>
+fn value_macro<'t, 'a>(tokens: &'t Tokens<'a>) -> Macro<'t, 'a>
     ensures { definition_of result ≡ spec.value_definition tokens.now }
 {
     let list = tokens.list.as_slice();
@@ -210,7 +210,7 @@ fn value_macro(tokens: &Tokens) -> Macro<'_>
     }
 }
 
-fn first_pos(tokens: &Tokens) -> Pos
+fn first_pos(tokens: &Tokens<'_>) -> Pos
     ensures { result ≡ spec.first_pos tokens.now.file tokens.now.list }
 {
     match tokens.list.as_slice() {
@@ -224,15 +224,18 @@ fn first_pos(tokens: &Tokens) -> Pos
 
 // The files that may be included. Of several of one name the first counts.
 #[tactic(auto, unfolding(crate::specs::Builds::included))]
-fn included_files<'a>(
+fn included_files<'t, 'a>(
     alloc: Global,
-    includes: &'a [(Name, Tokens)],
-) -> Result<NameMap<'a, &'a [Token]>, Memory>
+    includes: &'t [(Name, Tokens<'a>)],
+) -> Result<NameMap<'t, Included<'t, 'a>>, Memory>
     ensures { IfOk result (λ files. files_in files ≡ spec.included nothing includes.now) }
 {
     let mut files = NameMap::new(alloc);
     for (name, tokens) in includes {
-        files.put_new(name.as_slice(), tokens.list.as_slice())?;
+        let file = Included {
+            tokens: tokens.list.as_slice(),
+        };
+        files.put_new(name.as_slice(), file)?;
     }
     Ok(files)
 }
@@ -259,9 +262,9 @@ fn numbered_files<'a>(
 // The greatest number of a file.
 #[tactic(auto, unfolding(crate::specs::Builds::greatest_file))]
 pub fn greatest_of(
-    sources: &[Tokens],
-    includes: &[(Name, Tokens)],
-    defines: &[(Name, Tokens)],
+    sources: &[Tokens<'_>],
+    includes: &[(Name, Tokens<'_>)],
+    defines: &[(Name, Tokens<'_>)],
 ) -> u32
     ensures { result ≡ greatest_file sources.now includes.now defines.now }
 {
@@ -272,7 +275,7 @@ pub fn greatest_of(
     greatest_with(greatest_with(greatest, includes), defines)
 }
 
-fn greatest_with(most: u32, files: &[(Name, Tokens)]) -> u32
+fn greatest_with(most: u32, files: &[(Name, Tokens<'_>)]) -> u32
     ensures { result ≡ spec.greatest most (map (λ file. file.1.file) files.now) }
 {
     let mut greatest = most;

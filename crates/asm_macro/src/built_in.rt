@@ -6,8 +6,8 @@ ghost use Rattle.asm_macro.specs.Views.{definitions_of, rows_in, AreBuiltIn};
 
 use crate::macros::{Macro, Macros};
 use crate::refusal::MacroNo;
-use asm_lex::{Kind, Token};
-use goasm_base::{List, Memory, Name, Pos};
+use asm_lex::{Kind, Spelling, Token};
+use goasm_base::{List, Memory, Pos};
 use std::alloc::Global;
 
 /// A file that every build may include.
@@ -19,16 +19,16 @@ pub enum BuiltIn {
 
 /// A line of a built-in file: a name and the body that it gets.
 #[derive(Drop)]
-pub struct Row {
-    pub name: Name,
-    pub body: List<Token>,
+pub struct Row<'a> {
+    pub name: Spelling<'a>,
+    pub body: List<Token<'a>>,
 }
 
 /// The built-in files.
 #[derive(Drop)]
-pub struct Rows {
-    pub textflag: Vec<Row>,
-    pub funcdata: Vec<Row>,
+pub struct Rows<'a> {
+    pub textflag: Vec<Row<'a>>,
+    pub funcdata: Vec<Row<'a>>,
 }
 
 /// The built-in file of this name.
@@ -45,8 +45,8 @@ pub fn built_in_named(name: &[u8]) -> Option<BuiltIn>
     }
 }
 
-impl Rows {
-    pub fn new(alloc: Global) -> Result<Rows, Memory>
+impl<'a> Rows<'a> {
+    pub fn new(alloc: Global) -> Result<Rows<'a>, Memory>
         ensures { IfOk result (λ rows. AreBuiltIn rows) }
     {
         Ok(Rows {
@@ -56,7 +56,7 @@ impl Rows {
     }
 
     /// The lines of a file.
-    pub fn of(&self, file: BuiltIn) -> &[Row]
+    pub fn of(&self, file: BuiltIn) -> &[Row<'a>]
         ensures { result.now ≡ rows_in self.now file }
     {
         match file {
@@ -66,12 +66,12 @@ impl Rows {
     }
 }
 
-fn add_flag(
+fn add_flag<'a>(
     alloc: Global,
-    rows: &mut Vec<Row>,
-    name: &[u8],
+    rows: &mut Vec<Row<'a>>,
+    name: &'a [u8],
     value: u64,
-    text: &[u8],
+    text: &'a [u8],
 ) -> Result<(), Memory>
     ensures { OnOk result (rows.new.items ≡ rows.old.items ++ spec.flag name.now value text.now ∷ []) }
 {
@@ -80,17 +80,17 @@ fn add_flag(
         pos: Pos { file: 0, line: 1 },
         glued: false,
         kind: Kind::Number(value),
-        text: Name::from_slice(alloc, text)?,
+        text: Spelling::new(text),
     })?;
     rows.push(Row {
-        name: Name::from_slice(alloc, name)?,
+        name: Spelling::new(name),
         body: List::new(body),
     })?;
     Ok(())
 }
 
 #[tactic(auto, unfolding(crate::specs::BuiltIn::textflag))]
-fn textflag(alloc: Global) -> Result<Vec<Row>, Memory>
+fn textflag<'a>(alloc: Global) -> Result<Vec<Row<'a>>, Memory>
     ensures { IfOk result (λ rows. rows.items ≡ spec.textflag) }
 {
     let mut rows = Vec::new(alloc);
@@ -109,18 +109,18 @@ fn textflag(alloc: Global) -> Result<Vec<Row>, Memory>
     Ok(rows)
 }
 
-fn add_empty(alloc: Global, rows: &mut Vec<Row>, name: &[u8]) -> Result<(), Memory>
+fn add_empty<'a>(alloc: Global, rows: &mut Vec<Row<'a>>, name: &'a [u8]) -> Result<(), Memory>
     ensures { OnOk result (rows.new.items ≡ rows.old.items ++ spec.empty name.now ∷ []) }
 {
     rows.push(Row {
-        name: Name::from_slice(alloc, name)?,
+        name: Spelling::new(name),
         body: List::new(Vec::new(alloc)),
     })?;
     Ok(())
 }
 
 #[tactic(auto, unfolding(crate::specs::BuiltIn::funcdata))]
-fn funcdata(alloc: Global) -> Result<Vec<Row>, Memory>
+fn funcdata<'a>(alloc: Global) -> Result<Vec<Row<'a>>, Memory>
     ensures { IfOk result (λ rows. rows.items ≡ spec.funcdata) }
 {
     let mut rows = Vec::new(alloc);
@@ -141,10 +141,10 @@ fn is_defined_by(file: BuiltIn, origin: Option<BuiltIn>) -> bool
 
 /// Defines what a built-in file defines. A name that it has defined before is passed over.
 #[tactic(auto, unfolding(crate::specs::BuiltIn::with_rows))]
-pub fn define_rows<'a>(
-    macros: &mut Macros<'_, 'a>,
+pub fn define_rows<'t, 'a>(
+    macros: &mut Macros<'_, 't, 'a>,
     file: BuiltIn,
-    rows: &'a [Row],
+    rows: &'t [Row<'a>],
     pos: Pos,
 ) -> Result<(), MacroNo>
     ensures ok { OnOk result

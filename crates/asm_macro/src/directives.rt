@@ -19,22 +19,22 @@ use std::alloc::Global;
 
 /// A directive.
 #[derive(Clone, Copy)]
-pub struct Directive<'a> {
+pub struct Directive<'t, 'a> {
     /// Where it begins.
     pub pos: Pos,
     /// The line on which it ends.
     pub end: u32,
     pub keyword: Keyword,
     /// What stands behind its first word.
-    pub words: &'a [Token],
+    pub words: &'t [Token<'a>],
 }
 
 #[tactic(auto, unfolding(crate::specs::Files::define))]
-fn define<'a>(
+fn define<'t, 'a>(
     alloc: Global,
-    progress: &mut Progress<'_, 'a>,
+    progress: &mut Progress<'_, 't, 'a>,
     pos: Pos,
-    words: &'a [Token],
+    words: &'t [Token<'a>],
 ) -> Result<(), MacroNo>
     ensures ok { OnOk result
         (spec.define pos (forms.definition_in words.now) (state_of progress.old) ≡ Ok (state_of progress.new)) }
@@ -60,9 +60,9 @@ fn define<'a>(
 
 #[tactic(auto, unfolding(crate::specs::Files::undefine))]
 fn undefine<'a>(
-    progress: &mut Progress<'_, 'a>,
+    progress: &mut Progress<'_, '_, 'a>,
     pos: Pos,
-    words: &'a [Token],
+    words: &[Token<'a>],
 ) -> Result<(), MacroNo>
     ensures ok { OnOk result
         (spec.undefine pos (forms.name_in words.now) (state_of progress.old) ≡ Ok (state_of progress.new)) }
@@ -79,7 +79,7 @@ fn undefine<'a>(
 }
 
 // Counts the use of a file.
-fn count_use(progress: &mut Progress<'_, '_>, levels: usize, pos: Pos) -> Result<(), MacroNo>
+fn count_use(progress: &mut Progress<'_, '_, '_>, levels: usize, pos: Pos) -> Result<(), MacroNo>
     ensures ok { OnOk result (spec.count_use levels pos (state_of progress.old) ≡ Ok (state_of progress.new)) }
     ensures err { IfErr result (λ no. Refuses (spec.count_use levels pos (state_of progress.old)) no) }
 {
@@ -95,9 +95,9 @@ fn count_use(progress: &mut Progress<'_, '_>, levels: usize, pos: Pos) -> Result
 
 // Defines what a built-in file defines.
 #[tactic(auto, unfolding(crate::specs::Files::include_built_in))]
-fn include_built_in<'a>(
-    environment: &Environment<'a>,
-    progress: &mut Progress<'_, 'a>,
+fn include_built_in<'t, 'a>(
+    environment: &Environment<'t, 'a>,
+    progress: &mut Progress<'_, 't, 'a>,
     levels: usize,
     pos: Pos,
     name: &[u8],
@@ -124,14 +124,14 @@ fn include_built_in<'a>(
 
 // Includes a file: one of the build is to be read next.
 #[tactic(auto, unfolding(crate::specs::Files::include, crate::specs::Files::include_named, crate::specs::Views::context_of))]
-fn include<'a>(
+fn include<'t, 'a>(
     alloc: Global,
-    environment: &Environment<'a>,
-    progress: &mut Progress<'_, 'a>,
+    environment: &Environment<'t, 'a>,
+    progress: &mut Progress<'_, 't, 'a>,
     levels: usize,
     pos: Pos,
-    words: &'a [Token],
-) -> Result<Option<&'a [Token]>, MacroNo>
+    words: &'t [Token<'a>],
+) -> Result<Option<&'t [Token<'a>]>, MacroNo>
     requires { AreBuiltIn environment.now.built_in.now }
     ensures ok { IfOk result (λ entered.
         spec.include (context_of environment.now) levels pos (forms.quoted_in words.now) (state_of progress.old)
@@ -142,9 +142,9 @@ fn include<'a>(
     match quoted_in(alloc, words)? {
         None => Err(MacroNo::M5(pos)),
         Some(name) => match environment.includes.get(name.as_slice()) {
-            Some(tokens) => {
+            Some(file) => {
                 count_use(progress, levels, pos)?;
-                Ok(Some(*tokens))
+                Ok(Some(file.tokens))
             }
             None => {
                 include_built_in(environment, progress, levels, pos, name.as_slice())?;
@@ -157,11 +157,11 @@ fn include<'a>(
 // Opens a condition, whose first branch is taken where the name is defined or where it isn't.
 #[tactic(auto, unfolding(crate::specs::Files::open_condition))]
 fn open_condition(
-    macros: &Macros<'_, '_>,
+    macros: &Macros<'_, '_, '_>,
     position: &mut Position,
     wanted: bool,
     pos: Pos,
-    words: &[Token],
+    words: &[Token<'_>],
 ) -> Result<(), MacroNo>
     ensures ok { OnOk result (spec.open_condition wanted pos (forms.name_in words.now) (definitions_of macros.now) (place_of position.old)
         ≡ Ok (place_of position.new)) }
@@ -225,11 +225,11 @@ fn leave_condition(position: &mut Position, pos: Pos, alone: bool) -> Result<(),
 #[tactic(auto, unfolding(crate::specs::Files::mark, crate::specs::Views::context_of))]
 fn mark(
     alloc: Global,
-    environment: &Environment<'_>,
+    environment: &Environment<'_, '_>,
     position: &mut Position,
     pos: Pos,
     end: u32,
-    words: &[Token],
+    words: &[Token<'_>],
 ) -> Result<(), MacroNo>
     ensures ok { OnOk result (spec.mark (context_of environment.now) pos end (forms.mark_in words.now) (place_of position.old)
         ≡ Ok (place_of position.new)) }
@@ -247,14 +247,14 @@ fn mark(
 
 /// Does what a directive says, where statements count. The file that it includes, if any, is to be read next.
 #[tactic(auto, unfolding(crate::specs::Files::execute))]
-pub fn execute<'a>(
+pub fn execute<'t, 'a>(
     alloc: Global,
-    environment: &Environment<'a>,
+    environment: &Environment<'t, 'a>,
     levels: usize,
-    directive: Directive<'a>,
+    directive: Directive<'t, 'a>,
     position: &mut Position,
-    progress: &mut Progress<'_, 'a>,
-) -> Result<Option<&'a [Token]>, MacroNo>
+    progress: &mut Progress<'_, 't, 'a>,
+) -> Result<Option<&'t [Token<'a>]>, MacroNo>
     requires { AreBuiltIn environment.now.built_in.now }
     ensures ok { IfOk result (λ entered. spec.execute (context_of environment.now) levels directive.entry.pos directive.entry.end directive.entry.words.now
         (place_of position.old) (state_of progress.old) directive.entry.keyword
@@ -286,7 +286,7 @@ pub fn execute<'a>(
 
 /// Passes a directive in a branch that isn't taken: only conditions are counted, by their first words.
 #[tactic(auto, unfolding(crate::specs::Files::skip))]
-pub fn skip(directive: Directive<'_>, position: &mut Position) -> Result<(), MacroNo>
+pub fn skip(directive: Directive<'_, '_>, position: &mut Position) -> Result<(), MacroNo>
     ensures ok { OnOk result (spec.skip directive.entry.pos directive.entry.words.now (place_of position.old) directive.entry.keyword
         ≡ Ok (place_of position.new)) }
     ensures err { IfErr result (λ no. Refuses

@@ -23,21 +23,27 @@ use goasm_base::{Memory, Pos};
 use std::alloc::Global;
 use std::collections::VecDeque;
 
+/// A file that may be included.
+#[derive(Clone, Copy)]
+pub struct Included<'t, 'a> {
+    pub tokens: &'t [Token<'a>],
+}
+
 /// What stays the same through a build.
 #[derive(Drop)]
-pub struct Environment<'a> {
+pub struct Environment<'t, 'a> {
     /// The files that may be included, by name.
-    pub includes: NameMap<'a, &'a [Token]>,
+    pub includes: NameMap<'t, Included<'t, 'a>>,
     /// The numbers of the files that `#line` names.
-    pub files: NameMap<'a, u32>,
-    pub built_in: &'a Rows,
+    pub files: NameMap<'t, u32>,
+    pub built_in: &'t Rows<'a>,
 }
 
 /// What a source has come to.
 #[derive(Drop)]
-pub struct Progress<'g, 'a> {
-    pub macros: Macros<'g, 'a>,
-    pub produced: Produced,
+pub struct Progress<'g, 't, 'a> {
+    pub macros: Macros<'g, 't, 'a>,
+    pub produced: Produced<'a>,
 }
 
 /// What holds at a place in a file.
@@ -49,30 +55,30 @@ pub struct Position {
 }
 
 // The tokens of a statement, each with its position.
-fn placed_in(
+fn placed_in<'a>(
     alloc: Global,
     mapping: Option<Mapping>,
     levels: usize,
-    tokens: &[Token],
-) -> Result<Vec<Placed>, Memory>
+    tokens: &[Token<'a>],
+) -> Result<Vec<Placed<'a>>, Memory>
     ensures { IfOk result (λ placed. placed.items ≡ spec.placed_in mapping levels tokens.now) }
 {
     let mut placed = Vec::new(alloc);
     for token in tokens {
-        placed.push(placed_at(alloc, mapped_pos(mapping, token.pos), levels, token)?)?;
+        placed.push(placed_at(mapped_pos(mapping, token.pos), levels, token))?;
     }
     Ok(placed)
 }
 
 // Expands a statement that is no directive, where it counts.
 #[tactic(auto, unfolding(crate::specs::Files::read_plain))]
-fn read_plain(
+fn read_plain<'a>(
     alloc: Global,
     levels: usize,
     pos: Pos,
-    tokens: &[Token],
+    tokens: &[Token<'a>],
     position: &Position,
-    progress: &mut Progress<'_, '_>,
+    progress: &mut Progress<'_, '_, 'a>,
 ) -> Result<(), MacroNo>
     ensures ok { OnOk result (spec.read_plain levels pos tokens.now (place_of position.now) (state_of progress.old)
         ≡ spec.step_at (place_of position.now) (state_of progress.new)) }
@@ -95,14 +101,14 @@ fn read_plain(
 
 // Does what a directive says, or passes it.
 #[tactic(auto, unfolding(crate::specs::Files::read_directive))]
-fn read_directive<'a>(
+fn read_directive<'t, 'a>(
     alloc: Global,
-    environment: &Environment<'a>,
+    environment: &Environment<'t, 'a>,
     levels: usize,
-    directive: Directive<'a>,
+    directive: Directive<'t, 'a>,
     position: &mut Position,
-    progress: &mut Progress<'_, 'a>,
-) -> Result<Option<&'a [Token]>, MacroNo>
+    progress: &mut Progress<'_, 't, 'a>,
+) -> Result<Option<&'t [Token<'a>]>, MacroNo>
     requires { AreBuiltIn environment.now.built_in.now }
     ensures ok { IfOk result (λ entered. spec.read_directive (context_of environment.now) levels directive.entry.pos directive.entry.end
         directive.entry.words.now (place_of position.old) (state_of progress.old) directive.entry.keyword
@@ -118,7 +124,7 @@ fn read_directive<'a>(
 }
 
 // A directive by its tokens, of which the first has this position.
-fn directive_of<'a>(pos: Pos, end: u32, tokens: &'a [Token]) -> Directive<'a>
+fn directive_of<'t, 'a>(pos: Pos, end: u32, tokens: &'t [Token<'a>]) -> Directive<'t, 'a>
     ensures pos { result.pos ≡ pos }
     ensures end { result.end ≡ end }
     ensures keyword { result.keyword ≡ forms.keyword_of (before_first is_newline tokens.now) }
@@ -135,14 +141,14 @@ fn directive_of<'a>(pos: Pos, end: u32, tokens: &'a [Token]) -> Directive<'a>
 
 // Reads a statement. The file that it includes, if any, is to be read next.
 #[tactic(auto, unfolding(crate::specs::Files::read_statement))]
-fn read_statement<'a>(
+fn read_statement<'t, 'a>(
     alloc: Global,
-    environment: &Environment<'a>,
+    environment: &Environment<'t, 'a>,
     levels: usize,
-    statement: Statement<'a>,
+    statement: Statement<'t, 'a>,
     position: &mut Position,
-    progress: &mut Progress<'_, 'a>,
-) -> Result<Option<&'a [Token]>, MacroNo>
+    progress: &mut Progress<'_, 't, 'a>,
+) -> Result<Option<&'t [Token<'a>]>, MacroNo>
     requires { AreBuiltIn environment.now.built_in.now }
     ensures ok { IfOk result (λ entered. spec.read_statement (context_of environment.now) levels statement.entry.directive statement.entry.tokens.now
         (place_of position.old) (state_of progress.old)
@@ -163,7 +169,7 @@ fn read_statement<'a>(
 }
 
 // The line on which tokens end.
-fn end_line(first: &Token, tokens: &[Token]) -> u32
+fn end_line(first: &Token<'_>, tokens: &[Token<'_>]) -> u32
     ensures { result ≡ spec.end_line first.now tokens.now }
 {
     match tokens {
@@ -186,12 +192,12 @@ fn end_file(position: &Position) -> Result<(), MacroNo>
 
 /// Reads a file, below which so many levels of uses may nest.
 #[tactic(auto, unfolding(crate::specs::Files::read_statements, crate::specs::Files::read_file))]
-pub fn read_file<'a>(
+pub fn read_file<'t, 'a>(
     alloc: Global,
-    environment: &Environment<'a>,
+    environment: &Environment<'t, 'a>,
     levels: usize,
-    tokens: &'a [Token],
-    progress: &mut Progress<'_, 'a>,
+    tokens: &'t [Token<'a>],
+    progress: &mut Progress<'_, 't, 'a>,
 ) -> Result<(), MacroNo>
     requires { AreBuiltIn environment.now.built_in.now }
     ensures ok { OnOk result (spec.read_file levels (context_of environment.now) tokens.now (state_of progress.old)

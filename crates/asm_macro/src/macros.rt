@@ -13,25 +13,25 @@ use std::alloc::Global;
 
 /// A macro.
 #[derive(Drop)]
-pub struct Macro<'a> {
+pub struct Macro<'t, 'a> {
     /// The parameters of one that takes arguments.
     pub parameters: Option<ParameterMap<'a>>,
-    pub body: &'a [Token],
+    pub body: &'t [Token<'a>],
     /// The built-in file that defines it, where one does.
     pub origin: Option<BuiltIn>,
 }
 
 /// The macros in force: those of the build, as far as a source hasn't changed them.
 #[derive(Drop)]
-pub struct Macros<'g, 'a> {
-    given: &'g NameMap<'a, Macro<'a>>,
+pub struct Macros<'g, 't, 'a> {
+    given: &'g NameMap<'t, Macro<'t, 'a>>,
     // What the source made of names.
-    own: NameMap<'a, Option<Macro<'a>>>,
+    own: NameMap<'a, Option<Macro<'t, 'a>>>,
 }
 
-impl<'g, 'a> Macros<'g, 'a> {
+impl<'g, 't, 'a> Macros<'g, 't, 'a> {
     /// Those of the build. It takes no memory.
-    pub fn new(alloc: Global, given: &'g NameMap<'a, Macro<'a>>) -> Self
+    pub fn new(alloc: Global, given: &'g NameMap<'t, Macro<'t, 'a>>) -> Self
         ensures { definitions_of result ≡ (λ name. option_map definition_of (names_of given.now name)) }
     {
         Macros {
@@ -42,7 +42,7 @@ impl<'g, 'a> Macros<'g, 'a> {
 
     /// The macro of a name.
     #[tactic(auto, unfolding(crate::specs::Views::definitions_of))]
-    pub fn get(&self, name: &[u8]) -> Option<&Macro<'a>>
+    pub fn get(&self, name: &[u8]) -> Option<&Macro<'t, 'a>>
         ensures { option_map definition_of (option_copied result) ≡ definitions_of self.now name.now }
     {
         match self.own.get(name) {
@@ -53,7 +53,7 @@ impl<'g, 'a> Macros<'g, 'a> {
 
     /// The macro that a token names.
     #[tactic(auto, unfolding(crate::specs::Definitions::in_force))]
-    pub fn named_by(&self, token: &Token) -> Option<&Macro<'a>>
+    pub fn named_by(&self, token: &Token<'_>) -> Option<&Macro<'t, 'a>>
         ensures { option_map definition_of (option_copied result) ≡ in_force (definitions_of self.now) token.now }
     {
         if is_word(token) {
@@ -64,7 +64,7 @@ impl<'g, 'a> Macros<'g, 'a> {
     }
 
     /// Defines a name, in place of what it was.
-    pub fn define(&mut self, name: &'a [u8], definition: Macro<'a>) -> Result<(), Memory>
+    pub fn define(&mut self, name: &'a [u8], definition: Macro<'t, 'a>) -> Result<(), Memory>
         ensures { OnOk result
             (definitions_of self.new ≡ with_name (definitions_of self.old) name.now (Some (definition_of definition.entry))) }
     {

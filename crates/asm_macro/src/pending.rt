@@ -12,8 +12,8 @@ use std::marker::Model;
 
 /// A token that is still to be read.
 #[derive(Drop)]
-pub struct Entry {
-    pub placed: Placed,
+pub struct Entry<'a> {
+    pub placed: Placed<'a>,
     /// How many closing brackets behind it, up to the statement's end, close nothing behind it.
     pub behind: usize,
 }
@@ -21,11 +21,11 @@ pub struct Entry {
 /// The tokens of a statement that are still to be read, the next one first. It keeps which brackets are closed, so
 /// that no list is searched for its end where it has none.
 #[derive(Drop)]
-pub struct Pending {
-    entries: VecDeque<Entry>,
+pub struct Pending<'a> {
+    entries: VecDeque<Entry<'a>>,
 }
 
-impl Model for Pending {
+impl<'a> Model for Pending<'a> {
     ghost use Rattle.std.specs.Prelude.{List};
     ghost use Rattle.asm_macro.specs.declared.placed.Placed.{Placed};
     ghost use Rattle.asm_macro.specs.Pending.{tokens_in, AreCounted};
@@ -37,7 +37,7 @@ impl Model for Pending {
     ghost invariant = { λ p. AreCounted p.entries.items };
 }
 
-impl Pending {
+impl<'a> Pending<'a> {
     /// No tokens. It takes no memory.
     pub fn new(alloc: Global) -> Self
         ensures { result ≡ [] }
@@ -48,8 +48,8 @@ impl Pending {
     }
 
     /// Puts a token before all others.
-    pub fn push(&mut self, placed: Placed) -> Result<(), Memory>
-        ensures { OnOk result (self.new ≡ placed ∷ self.old) }
+    pub fn push(&mut self, placed: Placed<'a>) -> Result<(), Memory>
+        ensures { OnOk result (self.new ≡ placed.entry ∷ self.old) }
     {
         if self.entries.len() >= MOST_PENDING {
             return Err(Memory);
@@ -60,7 +60,7 @@ impl Pending {
     }
 
     /// Takes the first token.
-    pub fn pop(&mut self) -> Option<Placed>
+    pub fn pop(&mut self) -> Option<Placed<'a>>
         ensures { MatchOption result ((self.old ≡ []) × (self.new ≡ [])) (λ placed. self.old ≡ placed ∷ self.new) }
     {
         match self.entries.pop_front() {
@@ -77,8 +77,8 @@ impl Pending {
     }
 
     /// Puts tokens before all others, in their order.
-    pub fn push_all(&mut self, tokens: Vec<Placed>) -> Result<(), Memory>
-        ensures { OnOk result (self.new ≡ tokens.items ++ self.old) }
+    pub fn push_all(&mut self, tokens: Vec<Placed<'a>>) -> Result<(), Memory>
+        ensures { OnOk result (self.new ≡ tokens.entry.items ++ self.old) }
     {
         let mut tokens = tokens;
         while let Some(placed) = tokens.pop() {
@@ -89,7 +89,7 @@ impl Pending {
 }
 
 #[tactic(auto, unfolding(crate::specs::Arguments::arguments_behind))]
-fn begins_list(entries: &VecDeque<Entry>) -> bool
+fn begins_list(entries: &VecDeque<Entry<'_>>) -> bool
     requires { spec.AreCounted entries.now.items }
     ensures { result ≡ is_some (arguments_behind (spec.tokens_in entries.now.items)) }
 {
@@ -101,7 +101,7 @@ fn begins_list(entries: &VecDeque<Entry>) -> bool
 
 // How many closing brackets close nothing.
 #[tactic(auto, unfolding(crate::specs::Pending::closers))]
-fn closers(entries: &VecDeque<Entry>) -> Result<usize, Memory>
+fn closers(entries: &VecDeque<Entry<'_>>) -> Result<usize, Memory>
     requires { spec.AreCounted entries.now.items }
     ensures { IfOk result (λ count. count ≡ spec.closers (spec.tokens_in entries.now.items)) }
 {
@@ -112,7 +112,7 @@ fn closers(entries: &VecDeque<Entry>) -> Result<usize, Memory>
 }
 
 #[tactic(auto, unfolding(crate::specs::Pending::closers_from))]
-fn closers_from(placed: &Placed, behind: usize) -> Result<usize, Memory>
+fn closers_from(placed: &Placed<'_>, behind: usize) -> Result<usize, Memory>
     ensures { IfOk result (λ count. count ≡ spec.closers_from placed.now behind) }
 {
     if is_end(&placed.token) {

@@ -17,24 +17,24 @@ use asm_lex::Token;
 use goasm_base::{List, Memory, Pos};
 use std::alloc::Global;
 
-/// A copy of a token with this position.
+/// The token with this position.
 #[tactic(auto, unfolding(crate::specs::Uses::placed_at))]
-pub fn placed_at(alloc: Global, pos: Pos, levels: usize, token: &Token) -> Result<Placed, Memory>
-    ensures { IfOk result (λ placed. placed ≡ spec.placed_at pos levels token.now) }
+pub fn placed_at<'a>(pos: Pos, levels: usize, token: &Token<'a>) -> Placed<'a>
+    ensures { result ≡ spec.placed_at pos levels token.now }
 {
-    Ok(Placed {
+    Placed {
         token: Token {
             pos,
             glued: token.glued,
             kind: token.kind,
-            text: token.text.copy(alloc)?,
+            text: token.text.copy(),
         },
         levels,
-    })
+    }
 }
 
 // Which parameter a token of a body names.
-fn parameter_in(parameters: &Option<ParameterMap<'_>>, token: &Token) -> Option<usize>
+fn parameter_in(parameters: &Option<ParameterMap<'_>>, token: &Token<'_>) -> Option<usize>
     ensures { result ≡ spec.parameter_in (parameters_if parameters.now) token.now }
 {
     match parameters {
@@ -44,40 +44,38 @@ fn parameter_in(parameters: &Option<ParameterMap<'_>>, token: &Token) -> Option<
 }
 
 // Puts the tokens of an argument behind others.
-fn add_argument(
-    alloc: Global,
-    substitution: &mut Vec<Placed>,
+fn add_argument<'a>(
+    substitution: &mut Vec<Placed<'a>>,
     pos: Pos,
     levels: usize,
-    argument: &[Placed],
+    argument: &[Placed<'a>],
 ) -> Result<(), Memory>
     ensures { OnOk result (substitution.new.items
         ≡ substitution.old.items ++ map (λ placed. spec.placed_at pos levels placed.token) argument.now) }
 {
     for placed in argument {
-        substitution.push(placed_at(alloc, pos, levels, &placed.token)?)?;
+        substitution.push(placed_at(pos, levels, &placed.token))?;
     }
     Ok(())
 }
 
 // Puts behind others what stands for a token of a body.
-fn add_tokens_for(
-    alloc: Global,
-    substitution: &mut Vec<Placed>,
+fn add_tokens_for<'a>(
+    substitution: &mut Vec<Placed<'a>>,
     pos: Pos,
     levels: usize,
     parameters: &Option<ParameterMap<'_>>,
-    lists: &[List<Placed>],
-    token: &Token,
+    lists: &[List<Placed<'a>>],
+    token: &Token<'a>,
 ) -> Result<(), Memory>
     ensures { OnOk result (substitution.new.items ≡ substitution.old.items
         ++ spec.tokens_for pos levels lists.now token.now (spec.parameter_in (parameters_if parameters.now) token.now)) }
 {
     match parameter_in(parameters, token) {
-        None => substitution.push(placed_at(alloc, pos, levels, token)?)?,
+        None => substitution.push(placed_at(pos, levels, token))?,
         Some(place) => {
             if place < lists.len() {
-                add_argument(alloc, substitution, pos, levels, lists[place].as_slice())?;
+                add_argument(substitution, pos, levels, lists[place].as_slice())?;
             }
         }
     }
@@ -86,13 +84,13 @@ fn add_tokens_for(
 
 /// The body of a macro with its arguments put in.
 #[tactic(auto, unfolding(crate::specs::Uses::substitution))]
-fn substitution(
+fn substitution<'a>(
     alloc: Global,
     pos: Pos,
     levels: usize,
-    definition: &Macro<'_>,
-    lists: &[List<Placed>],
-) -> Result<Vec<Placed>, Memory>
+    definition: &Macro<'_, 'a>,
+    lists: &[List<Placed<'a>>],
+) -> Result<Vec<Placed<'a>>, Memory>
     ensures { IfOk result (λ made. made.items
         ≡ spec.substitution pos levels (parameters_if definition.now.parameters) lists.now definition.now.body.now) }
 {
@@ -102,25 +100,17 @@ fn substitution(
         if made.len() >= MOST_PENDING {
             return Err(Memory);
         }
-        add_tokens_for(
-            alloc,
-            &mut made,
-            pos,
-            levels,
-            &definition.parameters,
-            lists,
-            token,
-        )?;
+        add_tokens_for(&mut made, pos, levels, &definition.parameters, lists, token)?;
     }
     Ok(made)
 }
 
 /// Reads a use: what it stands for comes next. The lowest cause that was found in the statement is told.
 #[tactic(auto, unfolding(crate::specs::Uses::use_of))]
-fn read_use(
+fn read_use<'a>(
     alloc: Global,
-    met: &Met<'_, '_>,
-    pending: &mut Pending,
+    met: &Met<'_, '_, 'a>,
+    pending: &mut Pending<'a>,
     found: Option<Cause>,
 ) -> Result<Option<Cause>, Memory>
     ensures { IfOk result (λ next. spec.use_of found (definition_of met.now.definition.now) met.now.name pending.old
@@ -152,7 +142,11 @@ fn read_use(
 
 // The cause at the use that passes the limit.
 #[tactic(auto, unfolding(crate::specs::Uses::limit_cause))]
-fn limit_cause(alloc: Global, met: &Met<'_, '_>, pending: &mut Pending) -> Result<Cause, Memory>
+fn limit_cause<'a>(
+    alloc: Global,
+    met: &Met<'_, '_, 'a>,
+    pending: &mut Pending<'a>,
+) -> Result<Cause, Memory>
     ensures { IfOk result
         (λ cause. cause ≡ spec.limit_cause (definition_of met.now.definition.now) met.now.name pending.old) }
 {
@@ -169,17 +163,17 @@ fn limit_cause(alloc: Global, met: &Met<'_, '_>, pending: &mut Pending) -> Resul
 
 /// Expands the tokens of a statement, which begins at this place.
 #[tactic(auto, unfolding(crate::specs::Uses::run))]
-pub fn expand_statement(
+pub fn expand_statement<'a>(
     alloc: Global,
-    macros: &Macros<'_, '_>,
-    produced: &mut Produced,
-    pending: Pending,
+    macros: &Macros<'_, '_, 'a>,
+    produced: &mut Produced<'a>,
+    pending: Pending<'a>,
     pos: Pos,
 ) -> Result<(), MacroNo>
-    ensures ok { OnOk result (spec.expand_statement (definitions_of macros.now) pos pending (work_of produced.old)
+    ensures ok { OnOk result (spec.expand_statement (definitions_of macros.now) pos pending.entry (work_of produced.old)
         ≡ Ok (work_of produced.new)) }
     ensures err { IfErr result
-        (λ no. Refuses (spec.expand_statement (definitions_of macros.now) pos pending (work_of produced.old)) no) }
+        (λ no. Refuses (spec.expand_statement (definitions_of macros.now) pos pending.entry (work_of produced.old)) no) }
 {
     let mut pending = pending;
     let mut found = None;

@@ -15,8 +15,8 @@ use goasm_base::{Memory, Pos};
 
 /// What is made of a source so far, and what may still be made of the build.
 #[derive(Drop)]
-pub struct Produced {
-    pub out: Vec<Token>,
+pub struct Produced<'a> {
+    pub out: Vec<Token<'a>>,
     /// How many tokens more the results may have.
     pub room: usize,
     /// How many uses more there may be.
@@ -25,17 +25,17 @@ pub struct Produced {
 
 /// A name that is used, and its macro.
 #[derive(Drop)]
-pub struct Met<'m, 'a> {
-    pub name: Placed,
-    pub definition: &'m Macro<'a>,
+pub struct Met<'m, 't, 'a> {
+    pub name: Placed<'a>,
+    pub definition: &'m Macro<'t, 'a>,
 }
 
-impl Produced {
+impl<'a> Produced<'a> {
     // Puts out a token, where there is room for it.
-    fn put(&mut self, token: Token) -> Result<bool, Memory>
+    fn put(&mut self, token: Token<'a>) -> Result<bool, Memory>
         ensures uses { self.new.uses ≡ self.old.uses }
         ensures put { IfOk result
-            (λ put. spec.put (work_of self.old) token ≡ (if put then Some (work_of self.new) else None)) }
+            (λ put. spec.put (work_of self.old) token.entry ≡ (if put then Some (work_of self.new) else None)) }
     {
         if self.room == 0 {
             return Ok(false);
@@ -47,13 +47,13 @@ impl Produced {
 
     /// Puts out the tokens before the next use.
     #[tactic(auto, unfolding(crate::specs::Uses::front))]
-    pub fn put_front<'m, 'a>(
+    pub fn put_front<'m, 't>(
         &mut self,
-        macros: &'m Macros<'_, 'a>,
-        pending: &mut Pending,
+        macros: &'m Macros<'_, 't, 'a>,
+        pending: &mut Pending<'a>,
         found: Option<Cause>,
         pos: Pos,
-    ) -> Result<Option<Met<'m, 'a>>, MacroNo>
+    ) -> Result<Option<Met<'m, 't, 'a>>, MacroNo>
         ensures uses { self.new.uses ≡ self.old.uses }
         ensures ok { IfOk result (λ met. spec.front (definitions_of macros.now) pending.old (work_of self.old)
             ≡ front_of met pending.new (work_of self.new)) }

@@ -1,6 +1,6 @@
 -- What stands ahead, statement by statement from the back; and labels, one by one.
 use Rattle.std.proofs.Common.{◌≡◌, ℕ, ◌+◌, ◌-◌, ◌<◌, ◌≤◌, Bool, true, false, cond, List, [], ◌∷◌, ◌++◌, length, get_or, drop, map, Option, Some, None, refl, sym, ap, ◌∙◌, arith}
-use Rattle.std.specs.Borrow.{Bor}
+use Rattle.asm_parse.specs.declared.unread.Unread.{Unread}
 use Rattle.std.specs.Prelude.{◌&&◌, codes}
 use Rattle.std.proofs.lemmas.List.{drop_more, drop-map}
 use Rattle.asm_lex.specs.declared.token.Token.{Token}
@@ -12,14 +12,14 @@ use Rattle.asm_parse.specs.declared.ahead.Outlook.{Outlook}
 use Rattle.asm_parse.specs.Ahead.{seen, after_labels, opening_of, opening_in, opening_at, opening_by, before, ahead_of, outlooks_back}
 
 -- the outlooks from a statement on, by those behind it
-pub outlook_turn : (statements : List (Bor (List Token))) (at : ℕ) (statement : Bor (List Token)) → at < length statements → statement ≡ get_or statements at statement
-    → (outlooks_back (drop at (seen statements)) ≡ outlooks_back (drop (at + 1) (seen statements)) ++ record { here = before (opening_of statement.now) (ahead_of (drop (at + 1) (seen statements))); behind = ahead_of (drop (at + 1) (seen statements)) } ∷ [])
-    × (ahead_of (drop at (seen statements)) ≡ before (opening_of statement.now) (ahead_of (drop (at + 1) (seen statements))))
+pub outlook_turn : (statements : List Unread) (at : ℕ) (statement : Unread) → at < length statements → statement ≡ get_or statements at statement
+    → (outlooks_back (drop at (seen statements)) ≡ outlooks_back (drop (at + 1) (seen statements)) ++ record { here = before (opening_of statement.tokens.now) (ahead_of (drop (at + 1) (seen statements))); behind = ahead_of (drop (at + 1) (seen statements)) } ∷ [])
+    × (ahead_of (drop at (seen statements)) ≡ before (opening_of statement.tokens.now) (ahead_of (drop (at + 1) (seen statements))))
 unfolding outlooks_back
 outlook_turn statements at statement within item =
-    let front : drop at (seen statements) ≡ statement.now ∷ drop (at + 1) (seen statements) =
-    drop-map (λ (x : Bor (List Token)). x.now) at statements ∙ ap (map (λ (x : Bor (List Token)). x.now)) (drop_more statements at statement within ∙ ap (λ (x : Bor (List Token)). x ∷ drop (at + 1) statements) (sym item))
-    ∙ ap (λ (others : List (List Token)). statement.now ∷ others) (sym (drop-map (λ (x : Bor (List Token)). x.now) (at + 1) statements)) in
+    let front : drop at (seen statements) ≡ statement.tokens.now ∷ drop (at + 1) (seen statements) =
+    drop-map (λ (x : Unread). x.tokens.now) at statements ∙ ap (map (λ (x : Unread). x.tokens.now)) (drop_more statements at statement within ∙ ap (λ (x : Unread). x ∷ drop (at + 1) statements) (sym item))
+    ∙ ap (λ (others : List (List Token)). statement.tokens.now ∷ others) (sym (drop-map (λ (x : Unread). x.tokens.now) (at + 1) statements)) in
     (rw front refl, rw front refl)
 
 -- what was read, and what is left behind it
@@ -72,16 +72,16 @@ module _ (at after : Reading) where
   left e = left_in at.rest e
 
 -- one statement further to the front
-pub outlook_kept : (statements : List (Bor (List Token))) (at : ℕ) (statement : Bor (List Token)) (all longer : List Outlook) (behind here opening : Opening)
+pub outlook_kept : (statements : List Unread) (at : ℕ) (statement : Unread) (all longer : List Outlook) (behind here opening : Opening)
     → 0 < at → at ≤ length statements → statement ≡ get_or statements (at - 1) statement
     → all ≡ outlooks_back (drop at (seen statements)) → behind ≡ ahead_of (drop at (seen statements))
-    → opening ≡ opening_of statement.now → here ≡ before opening behind → longer ≡ all ++ record { here = here; behind = behind } ∷ []
+    → opening ≡ opening_of statement.tokens.now → here ≡ before opening behind → longer ≡ all ++ record { here = here; behind = behind } ∷ []
     → (longer ≡ outlooks_back (drop (at - 1) (seen statements))) × (here ≡ ahead_of (drop (at - 1) (seen statements)))
 outlook_kept statements at statement all longer behind here opening some within item all-is behind-is opening-is here-is longer-is =
     let below : at - 1 < length statements = omega arith in
     let same : at - 1 + 1 ≡ at = omega arith in
     let turn = rw same at (outlook_turn statements (at - 1) statement below item) in
-    let made : here ≡ before (opening_of statement.now) (ahead_of (drop at (seen statements))) = here-is ∙ ap (λ (o : Opening). before o behind) opening-is ∙ ap (before (opening_of statement.now)) behind-is in
+    let made : here ≡ before (opening_of statement.tokens.now) (ahead_of (drop at (seen statements))) = here-is ∙ ap (λ (o : Opening). before o behind) opening-is ∙ ap (before (opening_of statement.tokens.now)) behind-is in
     (longer-is ∙ rw (all-is, made, behind-is) (sym turn.0), made ∙ sym turn.1)
 
 -- what stands where no label is left

@@ -2,6 +2,7 @@ pub mod Loops
 pub mod NumberingLemmas
 pub mod AheadLemmas
 pub mod LabelLemmas
+pub mod CutLemmas
 pub mod ReadLemmas
 pub mod SymbolLemmas
 pub mod KnownLemmas

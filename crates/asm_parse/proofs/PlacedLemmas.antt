@@ -2,7 +2,7 @@
 use Rattle.std.proofs.Common.{◌≡◌, ℕ, ◌<◌, Bool, true, false, List, [], ◌∷◌, length, get_or, map, Option, Some, None, refl, sym, ap, ◌∙◌, subst}
 use Rattle.std.specs.Prelude.{All, IfSome}
 use Rattle.std.specs.List.{onto_first}
-use Rattle.std.specs.Borrow.{Bor}
+use Rattle.asm_parse.specs.declared.unread.Unread.{Unread}
 use Rattle.std.proofs.lemmas.List.{get_or-map, length-map}
 use Rattle.std.proofs.lemmas.List.Elements.{All-nil, All-cons, All-head, All-tail, All-push, All-map}
 use Rattle.std.proofs.lemmas.List.Splits.{slice_split-cons_yes, slice_split-cons_no}
@@ -43,13 +43,13 @@ module _ (count : ℕ) where
         by rest true is = rw (slice_split-cons_yes is_end token tokens is) (All-cons (All (TokenIn count)) [] (statements_of tokens) (All-nil (TokenIn count)) rest)
         by rest false is = rw (slice_split-cons_no is_end token tokens is) (onto token (statements_of tokens) (All-head (TokenIn count) token tokens all) rest)
 
-  pub statement_in : (statements : List (Bor (List Token))) (at : ℕ) (statement : Bor (List Token)) → at < length statements → statement ≡ get_or statements at statement
-      → All (All (TokenIn count)) (seen statements) → All (TokenIn count) statement.now
+  pub statement_in : (statements : List Unread) (at : ℕ) (statement : Unread) → at < length statements → statement ≡ get_or statements at statement
+      → All (All (TokenIn count)) (seen statements) → All (TokenIn count) statement.tokens.now
   statement_in statements at statement within item all =
       let inside : at < length (seen statements) = rw length-map within in
-      let own : get_or (seen statements) at statement.now ≡ statement.now
-      = get_or-map (λ (x : Bor (List Token)). x.now) statements at statement statement.now within ∙ ap (λ (x : Bor (List Token)). x.now) (sym item) in
-      subst (All (TokenIn count)) own (all at statement.now inside)
+      let own : get_or (seen statements) at statement.tokens.now ≡ statement.tokens.now
+      = get_or-map (λ (x : Unread). x.tokens.now) statements at statement statement.tokens.now within ∙ ap (λ (x : Unread). x.tokens.now) (sym item) in
+      subst (All (TokenIn count)) own (all at statement.tokens.now inside)
 
   -- A refusal has the place of its statement.
   pub refusal_in : (cause : Cause) (pos : Pos) → pos.file < count → NoIn count (refusal cause pos)

@@ -2,7 +2,7 @@
 use Rattle.std.proofs.Common.{◌≡◌, ℕ, suc, ◌+◌, ◌<◌, ◌≤◌, Bool, true, false, List, [], ◌∷◌, length, take, get_or, refl, sym, ap, ◌∙◌, arith}
 use Rattle.std.specs.Prelude.{sum_by}
 use Rattle.std.specs.List.{slice_split, onto_first}
-use Rattle.std.specs.Borrow.{Bor}
+use Rattle.asm_parse.specs.declared.unread.Unread.{Unread}
 use Rattle.std.proofs.lemmas.List.{get_or-map, length-map, take_all}
 use Rattle.std.proofs.lemmas.List.Sums.{sum_by-cons, sum_by_more}
 use Rattle.std.proofs.lemmas.List.Splits.{slice_split-cons_yes, slice_split-cons_no}
@@ -26,15 +26,15 @@ total_within (token ∷ tokens) = by (total_within tokens) (is_end token) refl w
       let cut = slice_split-cons_no is_end token tokens is in
       rw cut (omega (arith, one_more token (slice_split is_end tokens), rest))
 
-module _ (statements : List (Bor (List Token))) (at : ℕ) where
+module _ (statements : List Unread) (at : ℕ) where
   -- one more of them
-  pub total_more : (statement : Bor (List Token)) → at < length statements → statement ≡ get_or statements at statement
-      → sum_by length (take at (seen statements)) + length statement.now ≡ sum_by length (take (at + 1) (seen statements))
+  pub total_more : (statement : Unread) → at < length statements → statement ≡ get_or statements at statement
+      → sum_by length (take at (seen statements)) + length statement.tokens.now ≡ sum_by length (take (at + 1) (seen statements))
   total_more statement within item =
       let inside : at < length (seen statements) = rw length-map within in
-      let own : get_or (seen statements) at statement.now ≡ statement.now
-      = get_or-map (λ (x : Bor (List Token)). x.now) statements at statement statement.now within ∙ ap (λ (x : Bor (List Token)). x.now) (sym item) in
-      sym (sum_by_more length (seen statements) at statement.now inside ∙ ap (λ (x : List Token). sum_by length (take at (seen statements)) + length x) own)
+      let own : get_or (seen statements) at statement.tokens.now ≡ statement.tokens.now
+      = get_or-map (λ (x : Unread). x.tokens.now) statements at statement statement.tokens.now within ∙ ap (λ (x : Unread). x.tokens.now) (sym item) in
+      sym (sum_by_more length (seen statements) at statement.tokens.now inside ∙ ap (λ (x : List Token). sum_by length (take at (seen statements)) + length x) own)
 
   pub total_all : length statements ≤ at → sum_by length (take at (seen statements)) ≡ sum_by length (seen statements)
   total_all past = let none : length (seen statements) ≤ at = rw length-map past in ap (λ (x : List (List Token)). sum_by length x) (take_all at (seen statements) none)

@@ -1,15 +1,15 @@
 -- What stands ahead of a label or a LOCK: the first statement that belongs to the function, by its first word alone.
 use Rattle.std.specs.Prelude.{ℕ, ◌||◌, ◌&&◌, List, [], ◌∷◌, ◌++◌, map, bytes_eq, codes, Option, Some, None, if◌then◌else◌}
-use Rattle.std.specs.Borrow.{Bor}
 use Rattle.asm_lex.specs.declared.token.Token.{Token}
 use Rattle.asm_grammar.specs.Tokens.{word_of, is_word, is_sign}
 use Rattle.asm_parse.specs.declared.ahead.Opening.{Opening}
 use Rattle.asm_parse.specs.declared.ahead.Opening.TheVariants.{Aside, Text, Lock, Code}
 use Rattle.asm_parse.specs.declared.ahead.Outlook.{Outlook}
+use Rattle.asm_parse.specs.declared.unread.Unread.{Unread}
 
 -- statements, without where they lie in memory
-abbrev pub seen : List (Bor (List Token)) → List (List Token)
-seen statements = map (λ statement. statement.now) statements
+abbrev pub seen : List Unread → List (List Token)
+seen statements = map (λ statement. statement.tokens.now) statements
 
 -- what stands behind the labels of a statement
 unfoldable pub after_labels : List Token → List Token

@@ -1,6 +1,7 @@
 ghost use Rattle.std.specs.Prelude.{◌≡◌, map, IfOk};
 ghost use Rattle.asm_parse.specs.Ahead as spec;
 
+use crate::unread::Unread;
 use asm_grammar::Reader;
 use asm_lex::Token;
 use goasm_base::Memory;
@@ -28,7 +29,7 @@ pub struct Outlook {
 
 /// The outlooks of statements, of the last one first.
 #[tactic(auto, unfolding(crate::specs::Ahead::outlooks_back))]
-pub fn outlooks(alloc: Global, statements: &[&[Token]]) -> Result<Vec<Outlook>, Memory>
+pub fn outlooks(alloc: Global, statements: &[Unread<'_, '_>]) -> Result<Vec<Outlook>, Memory>
     ensures { IfOk result (λ all. all.items ≡ spec.outlooks_back (spec.seen statements.now)) }
 {
     let mut all = Vec::new(alloc);
@@ -36,7 +37,7 @@ pub fn outlooks(alloc: Global, statements: &[&[Token]]) -> Result<Vec<Outlook>, 
     let mut at = statements.len();
     while at > 0 {
         at -= 1;
-        let here = before(opening_of(statements[at]), behind);
+        let here = before(opening_of(statements[at].tokens), behind);
         all.push(Outlook { here, behind })?;
         behind = here;
     }
@@ -54,7 +55,7 @@ fn before(opening: Opening, behind: Opening) -> Opening
 
 // What a statement begins with, behind its labels.
 #[tactic(auto, unfolding(crate::specs::Ahead::opening_of))]
-fn opening_of(tokens: &[Token]) -> Opening
+fn opening_of(tokens: &[Token<'_>]) -> Opening
     ensures { result ≡ spec.opening_of tokens.now }
 {
     let mut reader = Reader::new(tokens);

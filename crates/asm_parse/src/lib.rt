@@ -12,6 +12,7 @@ mod resolve;
 mod step;
 mod unit;
 mod unit_parts;
+mod unread;
 mod words;
 
 pub use parse_no::ParseNo;

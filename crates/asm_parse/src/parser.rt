@@ -15,8 +15,9 @@ use crate::parse_no::ParseNo;
 use crate::progress::Progress;
 use crate::step::step;
 use crate::unit::Unit;
-use asm_lex::{Kind, Token, Tokens};
-use std::alloc::{AllocError, Global};
+use crate::unread::{Unread, statements_in};
+use asm_lex::Tokens;
+use std::alloc::Global;
 
 const NOTHING_AHEAD: Outlook = Outlook {
     here: Opening::Text,
@@ -30,7 +31,7 @@ const NOTHING_AHEAD: Outlook = Outlook {
 /// of memory may come in place of any answer. Each place in a unit or a refusal is in a file that a token is in.
 pub fn parse<W: Fn(&[u8]) -> bool>(
     alloc: Global,
-    tokens: &Tokens,
+    tokens: &Tokens<'_>,
     is_word: W,
 ) -> Result<Unit, ParseNo>
     requires askable { IsAskable (W.pre is_word) }
@@ -49,22 +50,10 @@ pub fn parse<W: Fn(&[u8]) -> bool>(
     progress.resolved(alloc, &is_word)
 }
 
-fn statements_in<'a>(alloc: Global, tokens: &'a [Token]) -> Result<Vec<&'a [Token]>, AllocError>
-    ensures { IfOk result (λ all. seen all.items ≡ spec.statements_of tokens.now) }
-{
-    tokens.split(|token| is_end(token)).collect(alloc)
-}
-
-fn is_end(token: &Token) -> bool
-    ensures { result ≡ spec.is_end token.now }
-{
-    matches!(token.kind, Kind::End)
-}
-
 #[tactic(auto, unfolding(crate::specs::Parse::read_of))]
 fn read_all<'a, W: Fn(&[u8]) -> bool>(
     alloc: Global,
-    statements: &[&'a [Token]],
+    statements: &[Unread<'_, 'a>],
     is_word: &W,
 ) -> Result<Progress<'a>, ParseNo>
     requires { IsAskable (W.pre is_word.now) }
@@ -82,7 +71,7 @@ fn read_all<'a, W: Fn(&[u8]) -> bool>(
 fn read_into<'a, W: Fn(&[u8]) -> bool>(
     alloc: Global,
     progress: &mut Progress<'a>,
-    statements: &[&'a [Token]],
+    statements: &[Unread<'_, 'a>],
     is_word: &W,
 ) -> Result<(), ParseNo>
     requires { IsAskable (W.pre is_word.now) }
@@ -93,7 +82,7 @@ fn read_into<'a, W: Fn(&[u8]) -> bool>(
     let mut outlooks = outlooks(alloc, statements)?;
     for statement in statements {
         let outlook = outlooks.pop().unwrap_or(NOTHING_AHEAD);
-        step(alloc, progress, outlook, statement, is_word)?;
+        step(alloc, progress, outlook, statement.tokens, is_word)?;
     }
     Ok(())
 }

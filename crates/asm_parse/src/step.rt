@@ -28,7 +28,7 @@ pub fn step<'a, W: Fn(&[u8]) -> bool>(
     alloc: Global,
     progress: &mut Progress<'a>,
     outlook: Outlook,
-    tokens: &'a [Token],
+    tokens: &[Token<'a>],
     is_word: &W,
 ) -> Result<(), ParseNo>
     requires { IsAskable (W.pre is_word.now) }
@@ -52,7 +52,7 @@ pub fn step<'a, W: Fn(&[u8]) -> bool>(
 }
 
 #[tactic(auto, unfolding(crate::specs::Steps::read))]
-fn read_one<'a>(alloc: Global, pos: Pos, tokens: &'a [Token]) -> Result<Read<'a>, ParseNo>
+fn read_one<'a>(alloc: Global, pos: Pos, tokens: &[Token<'a>]) -> Result<Read<'a>, ParseNo>
     ensures exact { Gives (spec.read pos tokens.now) result }
     ensures sized { IfOk result (λ read. HasSizes read.statement.form) }
     ensures few { IfOk result (λ read. operand_count read.statement.form ≤ length tokens.now + 1) }

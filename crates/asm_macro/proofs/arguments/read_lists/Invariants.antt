@@ -1,4 +1,4 @@
-use Rattle.std.proofs.Common.{◌≡◌, [], length}
+use Rattle.std.proofs.Common.{◌≡◌, length}
 use Rattle.asm_macro.specs.Arguments.{arguments_from}
 use Rattle.asm_macro.proofs.ArgumentLemmas.{arguments_with}
 use Rattle.asm_macro.proofs.arguments.read_lists.Given as goal

@@ -13,14 +13,14 @@ returns-in_err-step-clause-exact g c =
     let p = err_from_is_err_and c.from_residual-in_err-step.result c.from_residual-in_err-step.ensures.1 in
     let next = drop (c.loop-statement.statement-index + 1) (seen c.args.statements.now) in
     let none : c.pop.result ≡ None → length c.loop-statement.outlooks.items ≡ 0 = λ e. (let empty = rw e at c.pop.ensures.cases in omega (arith, empty.0, c.loop-statement.outlooks.ok.0)) in
-    let taken = popped c.loop-statement.outlooks.items c.pop.new.self.items (outlooks_back next) c.pop.result (outlook_of c.statement-item.result.now next) _ c.pop.ensures.items none (ahead c.args.statements.now c.loop-statement.statement-index c.statement-item.result c.loop-statement-test.true c.statement-item.is c.loop-statement.outlooks.items c.loop-statement.invariant.ahead) in
+    let taken = popped c.loop-statement.outlooks.items c.pop.new.self.items (outlooks_back next) c.pop.result (outlook_of c.statement-item.result.tokens.now next) _ c.pop.ensures.items none (ahead c.args.statements.now c.loop-statement.statement-index c.statement-item.result c.loop-statement-test.true c.statement-item.is c.loop-statement.outlooks.items c.loop-statement.invariant.ahead) in
     rw (p.1, p.2) (λ word tells kept. read_stops c.args.statements.now c.loop-statement.statement-index c.statement-item.result c.loop-statement-test.true c.statement-item.is word c.loop-statement.progress c.unwrap_or-outlook.result (steps word c.args.progress.now (seen c.args.statements.now)) (c.loop-statement.invariant.read word tells) (c.unwrap_or-outlook.ensures ∙ taken.1) c.in_err-step.field-0.0 (c.in_err-step.ensures.exact word tells kept))
 
 pub loop-statement-preserved : goal.loop-statement-preserved
 loop-statement-preserved g c =
     let next = drop (c.loop-statement.statement-index + 1) (seen c.args.statements.now) in
     let none : c.pop.result ≡ None → length c.loop-statement.outlooks.items ≡ 0 = λ e. (let empty = rw e at c.pop.ensures.cases in omega (arith, empty.0, c.loop-statement.outlooks.ok.0)) in
-    let taken = popped c.loop-statement.outlooks.items c.pop.new.self.items (outlooks_back next) c.pop.result (outlook_of c.statement-item.result.now next) _ c.pop.ensures.items none (ahead c.args.statements.now c.loop-statement.statement-index c.statement-item.result c.loop-statement-test.true c.statement-item.is c.loop-statement.outlooks.items c.loop-statement.invariant.ahead) in
+    let taken = popped c.loop-statement.outlooks.items c.pop.new.self.items (outlooks_back next) c.pop.result (outlook_of c.statement-item.result.tokens.now next) _ c.pop.ensures.items none (ahead c.args.statements.now c.loop-statement.statement-index c.statement-item.result c.loop-statement-test.true c.statement-item.is c.loop-statement.outlooks.items c.loop-statement.invariant.ahead) in
     record {
       ahead = taken.0;
       read = λ word tells. reads_on c.args.statements.now c.loop-statement.statement-index c.statement-item.result c.loop-statement-test.true c.statement-item.is word c.loop-statement.progress c.unwrap_or-outlook.result (steps word c.args.progress.now (seen c.args.statements.now)) (c.loop-statement.invariant.read word tells) (c.unwrap_or-outlook.ensures ∙ taken.1) c.step.new.progress (c.in_ok-step.ensures.exact word tells);
