@@ -1,18 +1,17 @@
--- A build, whatever is asked of it, from the build of what is left of its plan.
-use Rattle.std.proofs.Common.{◌≡◌, ◌+◌, ◌≤◌, ℕ, List, length, Option, Result, Ok, Err, IsErrAnd, inl, inr, sym, subst, ap, ◌∙◌}
+-- The parts of a build, and what is asked of the build.
+use Rattle.std.proofs.Common.{◌≡◌, ◌+◌, ◌≤◌, ℕ, List, length, Option, Result, Ok, Err, IsErrAnd, inl, inr, refl, sym, subst, ap, ◌∙◌}
 use Rattle.goasm_base.specs.Shelf.{Files, Reads, ReadLog, with_read}
 use Rattle.goasm_run.specs.declared.build.Build.{Build}
 use Rattle.goasm_run.specs.declared.part.Part.{Part}
 use Rattle.goasm_run.specs.declared.stop.Stop.{Stop}
 use Rattle.goasm_run.specs.declared.stop.Stop.TheVariants as stops
 use Rattle.goasm_run.specs.Builds.{Judge, over_sources, build_answer}
-use Rattle.goasm_run.specs.BuildsMade.{Makes, Builds}
-use Rattle.goasm_run.specs.Changes.{ShelfChange, shelf_change, ReadsAll}
+use Rattle.goasm_run.specs.BuildsMade.{Makes, ReadsParts}
+use Rattle.goasm_run.specs.Changes.{ShelfChange, shelf_change}
 use Rattle.goasm_run.specs.PartsRead.{LeadsTo}
 use Rattle.goasm_run.specs.Plan.{Plan, Ask}
 use Rattle.goasm_run.specs.Sources.{Sources, file_names, lexed}
-use Rattle.goasm_run.specs.Stops.{AnswerStopped, IsRead, Stopped}
-use Rattle.goasm_run.proofs.AnswerLemmas.{led_stopped}
+use Rattle.goasm_run.specs.Stops.{AnswerStopped, Answers, EndStopped, IsRead, Settles, Stopped}
 
 -- builds that read nothing
 
@@ -36,32 +35,32 @@ unfolding build_answer
 build_is list parts names found is tokens judge =
     ap (λ (n : List (List ℕ)). over_sources judge n (lexed n parts)) (sym is) ∙ ap (over_sources judge names) tokens
 
--- where the plan has led to such a build
+-- what is asked of a build that reads nothing
 
-pub builds_led : (shelf : ShelfChange) (plan rest : Judge → Plan) (result : Result Build Stop)
-    → ((judge : Judge) → LeadsTo shelf.holds (plan judge) shelf.reads_before (rest judge) shelf.reads_now)
-    → ReadsAll shelf → Makes rest result → Builds shelf plan result
-builds_led shelf plan rest (Ok build) leads unfailed makes = record {
-  leads = λ judge. subst (λ (p : Plan). LeadsTo shelf.holds (plan judge) shelf.reads_before p shelf.reads_now) (makes.made judge) (leads judge);
-  unfailed = unfailed;
-  expanded = makes.expanded;
-  stopped = tt;
-}
-builds_led shelf plan rest (Err stop) leads unfailed makes = record {
+pub settled_by : (plan rest : Plan) (result : Result (List ℕ) Stop) → plan ≡ rest → Settles rest result → Settles plan result
+settled_by plan rest result same settles = subst (λ (p : Plan). Settles p result) (sym same) settles
+
+end_stopped : (plan : Plan) (stop : Stop) → AnswerStopped plan stop → EndStopped plan stop
+end_stopped plan (stops.Refused line) stopped = λ told before now same. rw stopped (refl, same)
+end_stopped plan stops.Words stopped = stopped
+end_stopped plan stops.Memory stopped = tt
+end_stopped plan (stops.Unread name) stopped = absurd stopped
+
+pub stop_settles : (plan : Plan) (result : Result (List ℕ) Stop) (stop : Stop)
+    → IsErrAnd result (λ y. y ≡ stop) → AnswerStopped plan stop → Settles plan result
+stop_settles plan (Ok text) stop is stopped = absurd is
+stop_settles plan (Err y) stop is stopped = record { text = tt; stopped = subst (EndStopped plan) (sym is) (end_stopped plan stop stopped) }
+
+-- parts that were not read
+
+pub reading_stopped : (shelf : ShelfChange) (plan : (List Part → Plan) → Plan) (result : Result (List Part) Stop) (stop : Stop)
+    → IsErrAnd result (λ y. y ≡ stop) → ((next : List Part → Plan) → Stopped shelf (plan next) stop) → ReadsParts shelf plan result
+reading_stopped shelf plan (Ok parts) stop is stopped = absurd is
+reading_stopped shelf plan (Err y) stop is stopped = record {
   leads = tt;
   unfailed = tt;
-  expanded = tt;
-  stopped = λ judge. led_stopped shelf (plan judge) (rest judge) stop (leads judge) unfailed (makes.stopped judge);
-}
-
-pub builds_stopped : (shelf : ShelfChange) (plan : Judge → Plan) (result : Result Build Stop) (stop : Stop)
-    → IsErrAnd result (λ y. y ≡ stop) → ((judge : Judge) → Stopped shelf (plan judge) stop) → Builds shelf plan result
-builds_stopped shelf plan (Ok build) stop is stopped = absurd is
-builds_stopped shelf plan (Err y) stop is stopped = record {
-  leads = tt;
-  unfailed = tt;
-  expanded = tt;
-  stopped = λ judge. subst (Stopped shelf (plan judge)) (sym is) (stopped judge);
+  numbered = tt;
+  stopped = λ next. subst (Stopped shelf (plan next)) (sym is) (stopped next);
 }
 
 -- behind a read
@@ -100,19 +99,27 @@ module _ {S : Type 0} (holds : S → Option Files) (faults : S → List ℕ → 
     rw (read.unfailed file) at stopped.1,
   )
 
-  pub builds_read : (next : Judge → List ℕ → Plan) (result : Result Build Stop)
-      → Builds (shelf_change holds faults reads mid new) (λ judge. next judge bytes) result
-      → Builds (shelf_change holds faults reads old new) (λ judge. Ask name limit (next judge)) result
-  builds_read next (Ok build) builds = record {
-    leads = λ judge. leads_read (holds old) name limit (next judge) bytes (reads old) (reads mid) read.given read.short read.asked
-        (judge build.files.items build.sources.items) (reads new) (rw same at (builds.leads judge));
-    unfailed = λ file. builds.unfailed file ∙ read.unfailed file;
-    expanded = builds.expanded;
+  pub answers_read : (next : List ℕ → Plan) (result : Result (List ℕ) Stop) → Answers (shelf_change holds faults reads mid new) (next bytes) result
+      → Answers (shelf_change holds faults reads old new) (Ask name limit next) result
+  answers_read next (Ok text) answers = record {
+    text = ((bytes, read.given, read.short, rw (same, read.asked) at answers.text.0), λ file. answers.text.1 file ∙ read.unfailed file);
     stopped = tt;
   }
-  builds_read next (Err stop) builds = record {
+  answers_read next (Err stop) answers = record { text = tt; stopped = stopped_read next stop answers.stopped }
+
+  pub parts_read : (next : (List Part → Plan) → List ℕ → Plan) (result : Result (List Part) Stop)
+      → ReadsParts (shelf_change holds faults reads mid new) (λ asked. next asked bytes) result
+      → ReadsParts (shelf_change holds faults reads old new) (λ asked. Ask name limit (next asked)) result
+  parts_read next (Ok parts) found = record {
+    leads = λ asked. leads_read (holds old) name limit (next asked) bytes (reads old) (reads mid) read.given read.short read.asked
+        (asked parts) (reads new) (rw same at (found.leads asked));
+    unfailed = λ file. found.unfailed file ∙ read.unfailed file;
+    numbered = found.numbered;
+    stopped = tt;
+  }
+  parts_read next (Err stop) found = record {
     leads = tt;
     unfailed = tt;
-    expanded = tt;
-    stopped = λ judge. stopped_read (next judge) stop (builds.stopped judge);
+    numbered = tt;
+    stopped = λ asked. stopped_read (next asked) stop (found.stopped asked);
   }

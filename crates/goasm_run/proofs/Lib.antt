@@ -11,3 +11,6 @@ mod FileLemmas
 mod QuestionLemmas
 mod WordLemmas
 mod ListingLemmas
+mod ImageLemmas
+mod UnwindLemmas
+mod RunLemmas

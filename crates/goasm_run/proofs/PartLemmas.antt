@@ -1,5 +1,5 @@
 -- Reading the files of a list, line by line.
-use Rattle.std.proofs.Common.{◌<◌, suc, length, drop, get_or, drop-cons, inl, inr, sym, ap, ◌∙◌}
+use Rattle.std.proofs.Common.{inl, inr}
 use Rattle.std.specs.Prelude.{◌≡◌, ℕ, List, [], ◌∷◌, ◌+◌, ◌≤◌, Option}
 use Rattle.goasm_base.specs.Shelf.{Files, ReadLog}
 use Rattle.goasm_list.specs.Rules.{file_count}
@@ -19,10 +19,6 @@ pub record ReadUpTo (shelf : ShelfChange) (now : Option Files) (all rest : List 
   pub same : now ≡ shelf.holds
   pub unfailed : ReadsAll shelf
   pub numbered : NumbersUpTo number parts
-
-pub line_at : (lines : List ListLine) (index : ℕ) (line : ListLine)
-    → index < length lines → line ≡ get_or lines index line → drop index lines ≡ line ∷ drop (suc index) lines
-line_at lines index line below is = drop-cons lines index line below ∙ ap (λ l. l ∷ drop (suc index) lines) (sym is)
 
 -- where a line stops, so does the list
 pub parts_stopped : {S : Type 0} (holds : S → Option Files) (faults : S → List ℕ → ℕ) (reads : S → ReadLog) (old mid new : S)

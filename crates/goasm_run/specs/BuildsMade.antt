@@ -7,6 +7,8 @@ use Rattle.goasm_run.specs.declared.stop.Stop.{Stop}
 use Rattle.goasm_run.specs.Changes.{ShelfChange, ReadsAll}
 use Rattle.goasm_run.specs.Builds.{Judge}
 use Rattle.goasm_run.specs.Plan.{Plan}
+use Rattle.goasm_run.specs.declared.part.Part.{Part}
+use Rattle.goasm_run.specs.SourcesLexed.{AreNumbered}
 use Rattle.goasm_run.specs.PartsRead.{LeadsTo}
 use Rattle.goasm_run.specs.Stops.{AnswerStopped, Stopped}
 
@@ -21,10 +23,10 @@ pub record Makes (plan : Judge → Plan) (result : Result Build Stop) : Type 0 w
   pub expanded : IfOk result (λ build. AreExpanded build.files.items build.sources.items)
   pub stopped : IfErr result (λ stop. (judge : Judge) → AnswerStopped (plan judge) stop)
 
--- the plan leads to what is asked about the build
-pub record Builds (shelf : ShelfChange) (plan : Judge → Plan) (result : Result Build Stop) : Type 0 where
-  pub leads : IfOk result (λ build. (judge : Judge)
-      → LeadsTo shelf.holds (plan judge) shelf.reads_before (judge build.files.items build.sources.items) shelf.reads_now)
+-- the plan leads to what is asked about the parts of a build
+pub record ReadsParts (shelf : ShelfChange) (plan : (List Part → Plan) → Plan) (result : Result (List Part) Stop) : Type 0 where
+  pub leads : IfOk result (λ parts. (next : List Part → Plan)
+      → LeadsTo shelf.holds (plan next) shelf.reads_before (next parts) shelf.reads_now)
   pub unfailed : IfOk result (λ _. ReadsAll shelf)
-  pub expanded : IfOk result (λ build. AreExpanded build.files.items build.sources.items)
-  pub stopped : IfErr result (λ stop. (judge : Judge) → Stopped shelf (plan judge) stop)
+  pub numbered : IfOk result AreNumbered
+  pub stopped : IfErr result (λ stop. (next : List Part → Plan) → Stopped shelf (plan next) stop)

@@ -15,7 +15,10 @@ pub mod Lists
 pub mod Builds
 pub mod Expand
 pub mod Listing
+pub mod Images
+pub mod Unwind
 pub mod Commands
+pub mod Chains
 -- What a status says.
 pub mod Statuses
 -- What only proofs need: the clauses of functions that `goasm_main` calls.
@@ -24,4 +27,6 @@ pub mod PartsRead
 pub mod SourcesLexed
 pub mod BuildsMade
 pub mod UnitsSaid
+pub mod ImagesJudged
+pub mod ChainsJudged
 pub mod TokensWritten

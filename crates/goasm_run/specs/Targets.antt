@@ -1,5 +1,6 @@
--- What a build for an architecture needs of it: the words of its statements, and how these become instructions.
-use Rattle.std.specs.Prelude.{ℕ, Bool, List, [], ◌∷◌, ◌++◌, map, bytes_eq, codes}
+-- What a build for an architecture needs of it: the words of its statements, and how these become instructions. And what the check
+-- of an image needs.
+use Rattle.std.specs.Prelude.{ℕ, Bool, List, [], ◌∷◌, ◌++◌, map, bytes_eq, codes, None}
 use Rattle.std.specs.List.{list_any}
 use Rattle.machine_effect.specs.Shapes.{amd64_shape}
 use Rattle.amd64_table.specs.declared.condition.Cc.{Cc}
@@ -16,6 +17,7 @@ use Rattle.amd64_select.specs.Aims.{aiming}
 use Rattle.amd64_select.specs.FrameLaws.{plain}
 use Rattle.amd64_select.specs.Frames.{entry_of, check_of}
 use Rattle.amd64_select.specs.Selecting.{selection}
+use Rattle.image_rules.specs.Machine.{Machine, machine_of}
 use Rattle.unit_listing.specs.Kit.{Kit, kit_of}
 use Rattle.goasm_run.specs.declared.architecture.Architecture.{Architecture}
 use Rattle.goasm_run.specs.declared.architecture.Architecture.TheVariants.{Amd64}
@@ -50,3 +52,7 @@ speaks architecture name = list_any (bytes_eq name) (words_of architecture)
 -- statements of amd64 become these instructions
 abbrev pub amd64_kit : Kit Instr
 amd64_kit = kit_of amd64 Fits 62 1 amd64_shape selection aiming entry_of check_of plain
+
+-- the instructions of an image of amd64
+abbrev pub amd64_machine : Machine Instr
+amd64_machine = machine_of amd64 Fits 62 1 amd64_shape None plain

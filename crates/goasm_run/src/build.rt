@@ -1,14 +1,15 @@
-ghost use Rattle.std.specs.Prelude.{◌≡◌, ℕ, ◌++◌, ◌+◌, ◌<◌, ◌^◌, ◌≤◌, All, length, drop, IfOk, IfErr, Ok};
+ghost use Rattle.std.specs.Prelude.{◌≡◌, ℕ, [], ◌++◌, ◌+◌, ◌<◌, ◌^◌, ◌≤◌, All, length, drop, IfOk, IfErr, Ok};
 ghost use Rattle.asm_directive.specs.LineNames.{line_names_of};
 ghost use Rattle.asm_lex.specs.Form.{AreTokens};
 ghost use Rattle.asm_macro.specs.Builds.{greatest_file, outcome_of};
 ghost use Rattle.asm_macro.specs.Places.{ArePlaced, file_count};
 ghost use Rattle.goasm_list.specs.Rules as list;
 ghost use Rattle.goasm_run.specs.declared.stop.Stop.TheVariants as stops;
-ghost use Rattle.goasm_run.specs.Builds.{over_outcome, over_sources, build_answer, build_lines, build_plan};
-ghost use Rattle.goasm_run.specs.BuildsMade.{Makes, Builds};
+ghost use Rattle.goasm_run.specs.Builds.{over_outcome, over_sources, build_answer};
+ghost use Rattle.goasm_run.specs.BuildsMade.{Makes, ReadsParts};
 ghost use Rattle.goasm_run.specs.Changes.{shelf_change};
-ghost use Rattle.goasm_run.specs.Lists.{list_answer};
+ghost use Rattle.goasm_run.specs.Lists.{list_plan, list_answer};
+ghost use Rattle.goasm_run.specs.Parts.{ask_parts};
 ghost use Rattle.goasm_run.specs.Sources.{seen};
 ghost use Rattle.goasm_run.specs.SourcesLexed.{AreNumbered, AreLexed};
 
@@ -22,69 +23,67 @@ use crate::stop::Stop;
 use asm_directive::line_names;
 use asm_lex::Tokens;
 use asm_macro::{MacroNo, expand_named};
-use goasm_base::{Name, Shelf};
+use goasm_base::{List, Name, Shelf};
 use goasm_list::ListLine;
 use goasm_text::{Refusal, line_of};
 use std::alloc::Global;
 
 /// A build after macros, inclusions and conditions.
 #[derive(Drop)]
-pub struct Build {
+pub struct Build<'a> {
     /// The names of its files, by their numbers: those of `#line` directives come last.
     pub files: Vec<Name>,
     /// The tokens of each source.
-    pub sources: Vec<Tokens>,
+    pub sources: Vec<Tokens<'a>>,
 }
 
-/// The build of a list: each file that the list names is read, all are lexed, and then all are expanded.
-pub fn built<F: Shelf>(alloc: Global, shelf: &mut F, list: &[u8]) -> Result<Build, Stop>
-    ensures { Builds (shelf_change F.holds F.faults F.reads shelf.old shelf.new) (λ judge. build_plan judge list.now) result }
+/// The parts of the build of a list: each file that the list names is read.
+pub fn parts_of<F: Shelf>(alloc: Global, shelf: &mut F, list: &[u8]) -> Result<List<Part>, Stop>
+    ensures { ReadsParts (shelf_change F.holds F.faults F.reads shelf.old shelf.new) (λ next. list_plan list.now (λ lines. ask_parts 1 lines [] next)) result }
 {
     let bytes = read_named(alloc, shelf, list, limits::LIST)?;
-    over_list(alloc, shelf, list, bytes.as_slice())
+    parts_in(alloc, shelf, list, bytes.as_slice())
 }
 
-// The build over the bytes of the list.
-fn over_list<F: Shelf>(
+// The parts that the bytes of the list name.
+fn parts_in<F: Shelf>(
     alloc: Global,
     shelf: &mut F,
     name: &[u8],
     bytes: &[u8],
-) -> Result<Build, Stop>
-    ensures { Builds (shelf_change F.holds F.faults F.reads shelf.old shelf.new) (λ judge. list_answer name.now (build_lines judge name.now) bytes.now) result }
+) -> Result<List<Part>, Stop>
+    ensures { ReadsParts (shelf_change F.holds F.faults F.reads shelf.old shelf.new) (λ next. list_answer name.now (λ lines. ask_parts 1 lines [] next) bytes.now) result }
 {
     let list = lines_of(alloc, name, bytes)?;
-    over_lines(alloc, shelf, name, list.lines.as_slice())
+    parts_on(alloc, shelf, list.lines.into_vec())
 }
 
-// The build over the lines of the list.
-fn over_lines<F: Shelf>(
+// The parts that the lines of the list name.
+fn parts_on<F: Shelf>(
     alloc: Global,
     shelf: &mut F,
-    name: &[u8],
-    lines: &[ListLine],
-) -> Result<Build, Stop>
-    requires { list.file_count lines.now ≤ 1000 }
-    ensures { Builds (shelf_change F.holds F.faults F.reads shelf.old shelf.new) (λ judge. build_lines judge name.now lines.now) result }
+    lines: Vec<ListLine>,
+) -> Result<List<Part>, Stop>
+    requires { list.file_count lines.items ≤ 1000 }
+    ensures { ReadsParts (shelf_change F.holds F.faults F.reads shelf.old shelf.new) (λ next. ask_parts 1 lines.items [] next) result }
 {
-    let parts = read_parts(alloc, shelf, lines)?;
-    over_parts(alloc, name, parts.as_slice())
+    Ok(List::new(read_parts(alloc, shelf, lines)?))
 }
 
-// The build of parts that were read.
+/// The build of a list with these parts: all are lexed, and then all are expanded.
 #[tactic(auto, unfolding(crate::specs::Builds::build_answer, crate::specs::Sources::file_names))]
-fn over_parts(alloc: Global, name: &[u8], parts: &[Part]) -> Result<Build, Stop>
+pub fn built<'a>(alloc: Global, list: &[u8], parts: &'a [Part]) -> Result<Build<'a>, Stop>
     requires { AreNumbered parts.now }
-    ensures { Makes (λ judge. build_answer judge name.now parts.now) result }
+    ensures { Makes (λ judge. build_answer judge list.now parts.now) result }
 {
-    let names = file_names(alloc, name, parts)?;
+    let names = file_names(alloc, list, parts)?;
     let sources = lexed(alloc, names.as_slice(), parts)?;
     over_tokens(alloc, names, &sources)
 }
 
 // The build of tokens. Behind the names of files come those of `#line` directives.
 #[tactic(auto, using(crate::proofs::FileLemmas::sources_formed, crate::proofs::FileLemmas::includes_formed, crate::proofs::FileLemmas::defines_formed, crate::proofs::FileLemmas::are_placed))]
-fn over_tokens(alloc: Global, names: Vec<Name>, found: &Sources) -> Result<Build, Stop>
+fn over_tokens<'a>(alloc: Global, names: Vec<Name>, found: &Sources<'a>) -> Result<Build<'a>, Stop>
     requires lexed { AreLexed (length names.items) (seen found.now) }
     requires names { length names.items ≤ 1001 }
     requires named { 0 < length names.items }
@@ -99,7 +98,12 @@ fn over_tokens(alloc: Global, names: Vec<Name>, found: &Sources) -> Result<Build
 
 // The build of tokens over the names of its files, of which those of `#line` directives stand behind this many.
 #[tactic(auto, using(crate::proofs::FileLemmas::macro_named, crate::proofs::FileLemmas::macro_caused, crate::proofs::FileLemmas::macro_fault, crate::proofs::FileLemmas::are_expanded))]
-fn over_files(alloc: Global, files: Vec<Name>, count: usize, found: &Sources) -> Result<Build, Stop>
+fn over_files<'a>(
+    alloc: Global,
+    files: Vec<Name>,
+    count: usize,
+    found: &Sources<'a>,
+) -> Result<Build<'a>, Stop>
     requires count { count ≤ length files.items }
     requires lines { drop count files.items ≡ line_names_of found.now.sources.items found.now.includes.items }
     requires sources { All AreTokens found.now.sources.items }

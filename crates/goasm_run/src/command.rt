@@ -12,6 +12,12 @@ pub enum Command {
     Expand,
     /// `listing TARGET LIST`
     Listing,
+    /// `check IMAGE`
+    Check,
+    /// `dis IMAGE`
+    Dis,
+    /// `unwind IMAGE DUMP`
+    Unwind,
 }
 
 impl Command {
@@ -31,6 +37,15 @@ impl Command {
         }
         if word == b"listing".as_slice() {
             return Some(Command::Listing);
+        }
+        if word == b"check".as_slice() {
+            return Some(Command::Check);
+        }
+        if word == b"dis".as_slice() {
+            return Some(Command::Dis);
+        }
+        if word == b"unwind".as_slice() {
+            return Some(Command::Unwind);
         }
         None
     }

@@ -9,6 +9,10 @@ mod command;
 mod commands;
 #[cfg(test)]
 mod expand_tests;
+#[cfg(test)]
+mod image_tests;
+mod image_text;
+mod laws;
 mod limits;
 mod lines;
 mod list;
@@ -24,7 +28,10 @@ mod stop;
 mod test_runs;
 #[cfg(test)]
 mod tests;
+#[cfg(test)]
+mod unwind_tests;
 mod words;
 
+pub use laws::kept_runs_are_unwound;
 pub use program::goasm_main::goasm_main;
 pub use words::Words;

@@ -3,6 +3,12 @@
 /// A function table.
 pub const TABLE: usize = 256 << 20;
 
+/// An image.
+pub const IMAGE: usize = 64 << 20;
+
+/// A dump.
+pub const DUMP: usize = 64 << 20;
+
 /// A file of raw code.
 pub const CODE: usize = 16 << 20;
 

@@ -13,7 +13,7 @@ use crate::limits;
 use crate::part::{Part, Role};
 use crate::read::read_named;
 use crate::stop::Stop;
-use goasm_base::{Memory, Shelf};
+use goasm_base::Shelf;
 use goasm_list::{LineKind, ListLine};
 use std::alloc::Global;
 
@@ -22,14 +22,14 @@ use std::alloc::Global;
 pub fn read_parts<F: Shelf>(
     alloc: Global,
     shelf: &mut F,
-    lines: &[ListLine],
+    lines: Vec<ListLine>,
 ) -> Result<Vec<Part>, Stop>
-    requires { file_count lines.now ≤ 1000 }
+    requires { file_count lines.items ≤ 1000 }
     ensures leads { IfOk result (λ parts. (next : List Part → Plan)
-        → LeadsTo (F.holds shelf.old) (ask_parts 1 lines.now [] next) (F.reads shelf.old) (next parts.items) (F.reads shelf.new)) }
+        → LeadsTo (F.holds shelf.old) (ask_parts 1 lines.items [] next) (F.reads shelf.old) (next parts.items) (F.reads shelf.new)) }
     ensures unfailed { IfOk result (λ _. ReadsAll (shelf_change F.holds F.faults F.reads shelf.old shelf.new)) }
     ensures numbered { IfOk result (λ parts. AreNumbered parts.items) }
-    ensures stopped { IfErr result (PartsStopped (shelf_change F.holds F.faults F.reads shelf.old shelf.new) lines.now) }
+    ensures stopped { IfErr result (PartsStopped (shelf_change F.holds F.faults F.reads shelf.old shelf.new) lines.items) }
 {
     let mut parts = Vec::new(alloc);
     let mut number: u32 = 1;
@@ -45,16 +45,16 @@ fn read_line<F: Shelf>(
     alloc: Global,
     shelf: &mut F,
     number: u32,
-    line: &ListLine,
+    line: ListLine,
     parts: &mut Vec<Part>,
 ) -> Result<u32, Stop>
-    requires { number + file_count (line.now ∷ []) ≤ 1001 }
-    ensures leads { IfOk result (λ next. LineLeads (F.holds shelf.old) line.now
+    requires { number + file_count (line ∷ []) ≤ 1001 }
+    ensures leads { IfOk result (λ next. LineLeads (F.holds shelf.old) line
         number parts.old.items (F.reads shelf.old) next parts.new.items (F.reads shelf.new)) }
-    ensures next { IfOk result (λ next. next ≤ number + file_count (line.now ∷ [])) }
+    ensures next { IfOk result (λ next. next ≤ number + file_count (line ∷ [])) }
     ensures numbered { IfOk result (λ next. NumbersUpTo number parts.old.items → NumbersUpTo next parts.new.items) }
     ensures unfailed { IfOk result (λ _. ReadsAll (shelf_change F.holds F.faults F.reads shelf.old shelf.new)) }
-    ensures stopped { IfErr result (LineStopped (shelf_change F.holds F.faults F.reads shelf.old shelf.new) line.now number parts.old.items) }
+    ensures stopped { IfErr result (LineStopped (shelf_change F.holds F.faults F.reads shelf.old shelf.new) line number parts.old.items) }
     ensures same { F.holds shelf.new ≡ F.holds shelf.old }
 {
     match line.kind {
@@ -67,7 +67,7 @@ fn read_line<F: Shelf>(
             Ok(number + 1)
         }
         LineKind::Define => {
-            parts.push(value(alloc, line)?)?;
+            parts.push(value(line))?;
             Ok(number)
         }
         LineKind::Stub | LineKind::Outside | LineKind::Entry => Ok(number),
@@ -80,11 +80,11 @@ fn read_file<F: Shelf>(
     shelf: &mut F,
     role: Role,
     number: u32,
-    line: &ListLine,
+    line: ListLine,
 ) -> Result<Part, Stop>
-    ensures part { IfOk result (λ part. part ≡ file_part role number line.now part.bytes) }
-    ensures read { IfOk result (λ part. IsRead (shelf_change F.holds F.faults F.reads shelf.old shelf.new) line.now.name source_limit part.bytes) }
-    ensures stopped { IfErr result (ReadStopped (shelf_change F.holds F.faults F.reads shelf.old shelf.new) line.now.name) }
+    ensures part { IfOk result (λ part. part ≡ file_part role number line part.bytes) }
+    ensures read { IfOk result (λ part. IsRead (shelf_change F.holds F.faults F.reads shelf.old shelf.new) line.name source_limit part.bytes) }
+    ensures stopped { IfErr result (ReadStopped (shelf_change F.holds F.faults F.reads shelf.old shelf.new) line.name) }
     ensures same { F.holds shelf.new ≡ F.holds shelf.old }
 {
     let bytes = read_named(alloc, shelf, line.name.as_slice(), limits::SOURCE)?;
@@ -92,20 +92,20 @@ fn read_file<F: Shelf>(
         role,
         file: number,
         line: 1,
-        name: line.name.copy(alloc)?,
+        name: line.name,
         bytes,
     })
 }
 
 // The value of a macro that a line defines.
-fn value(alloc: Global, line: &ListLine) -> Result<Part, Memory>
-    ensures { IfOk result (λ part. part ≡ value_part line.now) }
+fn value(line: ListLine) -> Part
+    ensures { result ≡ value_part line }
 {
-    Ok(Part {
+    Part {
         role: Role::Value,
         file: 0,
         line: line.line,
-        name: line.name.copy(alloc)?,
-        bytes: line.rest.copy(alloc)?,
-    })
+        name: line.name,
+        bytes: line.rest,
+    }
 }

@@ -15,13 +15,13 @@ use std::alloc::Global;
 
 /// The tokens of a build.
 #[derive(Drop)]
-pub struct Sources {
+pub struct Sources<'a> {
     /// The sources that are assembled.
-    pub sources: Vec<Tokens>,
+    pub sources: Vec<Tokens<'a>>,
     /// The files that sources include, by their names.
-    pub includes: Vec<(Name, Tokens)>,
+    pub includes: Vec<(Name, Tokens<'a>)>,
     /// The values of macros, by their names.
-    pub defines: Vec<(Name, Tokens)>,
+    pub defines: Vec<(Name, Tokens<'a>)>,
 }
 
 /// The names of a build's files, by their numbers: that of the list, and those that it names.
@@ -43,7 +43,7 @@ pub fn file_names(alloc: Global, list: &[u8], parts: &[Part]) -> Result<Vec<Name
 
 /// The tokens of all parts, or the first refusal in their order.
 #[tactic(auto, unfolding(crate::specs::Sources::sources_of))]
-pub fn lexed(alloc: Global, names: &[Name], parts: &[Part]) -> Result<Sources, Stop>
+pub fn lexed<'a>(alloc: Global, names: &[Name], parts: &'a [Part]) -> Result<Sources<'a>, Stop>
     requires named { All (λ part. part.file < length names.now) parts.now }
     requires few { length (names_of parts.now) ≤ 1000 }
     ensures tokens { IfOk result (λ found. spec.lexed names.now parts.now ≡ Ok (seen found)) }
@@ -63,7 +63,12 @@ pub fn lexed(alloc: Global, names: &[Name], parts: &[Part]) -> Result<Sources, S
 }
 
 // Adds the tokens of a part.
-fn add(alloc: Global, names: &[Name], done: &mut Sources, part: &Part) -> Result<(), Stop>
+fn add<'a>(
+    alloc: Global,
+    names: &[Name],
+    done: &mut Sources<'a>,
+    part: &'a Part,
+) -> Result<(), Stop>
     requires named { part.now.file < length names.now }
     requires lexed { AreLexed (length names.now) (seen done.old) }
     ensures tokens { OnOk result (seen done.new ≡ with_part (seen done.old) part.now.role part.now.name (spec.part_tokens part.now)) }
@@ -79,7 +84,7 @@ fn add(alloc: Global, names: &[Name], done: &mut Sources, part: &Part) -> Result
     }
 }
 
-fn part_tokens(alloc: Global, names: &[Name], part: &Part) -> Result<Tokens, Stop>
+fn part_tokens<'a>(alloc: Global, names: &[Name], part: &'a Part) -> Result<Tokens<'a>, Stop>
     requires { part.now.file < length names.now }
     ensures tokens { IfOk result (λ tokens. tokens ≡ spec.part_tokens part.now) }
     ensures unrefused { OnOk result (spec.refusal_by part.now.role names.now part.now ≡ None) }
@@ -94,7 +99,7 @@ fn part_tokens(alloc: Global, names: &[Name], part: &Part) -> Result<Tokens, Sto
 
 // The tokens of a file.
 #[tactic(auto, unfolding(crate::specs::Sources::file_refusal), using(crate::proofs::FileLemmas::lex_named, crate::proofs::FileLemmas::lex_caused))]
-fn file_tokens(alloc: Global, names: &[Name], part: &Part) -> Result<Tokens, Stop>
+fn file_tokens<'a>(alloc: Global, names: &[Name], part: &'a Part) -> Result<Tokens<'a>, Stop>
     requires { part.now.file < length names.now }
     ensures tokens { IfOk result (λ tokens. tokens ≡ tokens_of part.now.file part.now.bytes) }
     ensures unrefused { OnOk result (spec.file_refusal names.now part.now ≡ None) }
@@ -114,7 +119,7 @@ fn file_tokens(alloc: Global, names: &[Name], part: &Part) -> Result<Tokens, Sto
 
 // The tokens of a value, on the line of the list where it stands.
 #[tactic(auto, unfolding(crate::specs::Sources::value_refusal), using(crate::proofs::SourceLemmas::lexed_on_line, crate::proofs::FileLemmas::lex_named_on, crate::proofs::FileLemmas::lex_caused_on))]
-fn value_tokens(alloc: Global, names: &[Name], part: &Part) -> Result<Tokens, Stop>
+fn value_tokens<'a>(alloc: Global, names: &[Name], part: &'a Part) -> Result<Tokens<'a>, Stop>
     requires { part.now.file < length names.now }
     ensures tokens { IfOk result (λ tokens. tokens ≡ spec.tokens_on part.now.line (tokens_of part.now.file part.now.bytes)) }
     ensures unrefused { OnOk result (spec.value_refusal names.now part.now ≡ None) }
@@ -153,24 +158,24 @@ fn refusal_on(line: u32, no: LexNo) -> LexNo
     }
 }
 
-fn token_on(alloc: Global, line: u32, token: &Token) -> Result<Token, Memory>
-    ensures { IfOk result (λ moved. moved ≡ spec.token_on line token.now) }
+fn token_on<'a>(line: u32, token: &Token<'a>) -> Token<'a>
+    ensures { result ≡ spec.token_on line token.now }
 {
-    Ok(Token {
+    Token {
         pos: place_on(line, token.pos),
         glued: token.glued,
         kind: token.kind,
-        text: token.text.copy(alloc)?,
-    })
+        text: token.text.copy(),
+    }
 }
 
 // The same tokens on another line.
-fn tokens_on(alloc: Global, line: u32, tokens: &Tokens) -> Result<Tokens, Memory>
+fn tokens_on<'a>(alloc: Global, line: u32, tokens: &Tokens<'a>) -> Result<Tokens<'a>, Memory>
     ensures { IfOk result (λ moved. moved ≡ spec.tokens_on line tokens.now) }
 {
     let mut list = Vec::new(alloc);
     for token in tokens.list.as_slice() {
-        list.push(token_on(alloc, line, token)?)?;
+        list.push(token_on(line, token))?;
     }
     Ok(Tokens {
         file: tokens.file,

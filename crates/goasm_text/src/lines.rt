@@ -1,8 +1,7 @@
 // The forms of lines.
-ghost use Rattle.std.specs.Prelude.{◌≡◌, pos, ◌++◌, codes, IfOk, OnOk, OnErr};
-ghost use Rattle.goasm_base.specs.Numbers.{decimal_text};
+ghost use Rattle.std.specs.Prelude.{◌≡◌, ◌++◌, IfOk, OnOk, OnErr};
 ghost use Rattle.goasm_text.specs.Lines as spec;
-ghost use Rattle.goasm_text.specs.Lines.{AppendsFront, place_text, place_line, with_number, newline};
+ghost use Rattle.goasm_text.specs.Lines.{AppendsFront, address_line, offset_line, place_text, place_line, with_number};
 
 use goasm_base::{Bytes, Memory, Name, Pos, Text};
 use std::alloc::Global;
@@ -62,8 +61,7 @@ pub fn at_place_with(
 
 /// `FILE: CODE at OFFSET`
 pub fn at_offset(alloc: Global, name: &[u8], code: &[u8], offset: u64) -> Result<Bytes, Memory>
-    ensures { IfOk result (λ line. line ≡
-        name.now ++ codes ": " ++ code.now ++ codes " at " ++ decimal_text (pos offset) ++ newline) }
+    ensures { IfOk result (λ line. line ≡ offset_line name.now code.now offset) }
 {
     let mut line = Text::new(alloc);
     line.push(name)?;
@@ -71,6 +69,20 @@ pub fn at_offset(alloc: Global, name: &[u8], code: &[u8], offset: u64) -> Result
     line.push(code)?;
     line.push(b" at ")?;
     line.push_unsigned(offset)?;
+    line.push(b"\n")?;
+    Ok(line.finish())
+}
+
+/// `FILE: CODE at ADDRESS`
+pub fn at_address(alloc: Global, name: &[u8], code: &[u8], address: u64) -> Result<Bytes, Memory>
+    ensures { IfOk result (λ line. line ≡ address_line name.now code.now address) }
+{
+    let mut line = Text::new(alloc);
+    line.push(name)?;
+    line.push(b": ")?;
+    line.push(code)?;
+    line.push(b" at ")?;
+    line.push_hex(address)?;
     line.push(b"\n")?;
     Ok(line.finish())
 }

@@ -1,7 +1,9 @@
 ghost use Rattle.std.specs.Prelude.{◌≡◌, ◌<◌, length, IsSome, IfOk};
 ghost use Rattle.goasm_text.specs.Lines as spec;
-ghost use Rattle.goasm_text.specs.Lines.{HasCause, HasName, IsNamed, lex_cause, macro_cause, parse_cause, rewrite_cause, select_cause, size_cause, cause_line, table_code, table_offset, table_line};
+ghost use Rattle.goasm_text.specs.Lines.{HasCause, HasName, IsNamed, lex_cause, macro_cause, parse_cause, rewrite_cause, select_cause, size_cause, cause_line, table_line};
 
+use crate::dump_lines::{of_chain, of_dump};
+use crate::image_lines::{of_check, of_image, table_fault};
 use crate::lines::{at_offset, at_place, at_place_with, name_in};
 use crate::refusal::Refusal;
 use asm_lex::LexNo;
@@ -15,12 +17,15 @@ use pclntab::TableNo;
 use std::alloc::Global;
 
 /// The line that tells a refusal, with its newline. `files` has the name of each file at the file's number, the
-/// names of `#line` directives too; a function table is the first of them. Each file that the refusal speaks of has to
+/// names of `#line` directives too; a function table, an image or a dump is the first of them. Each file that the refusal speaks of has to
 /// have a name there, and the refusal may not be want of memory, which no line tells.
 ///
 /// The line is `FILE:LINE: CODE` for a source, its expansion, its statements and their instructions, with a number behind
 /// the code of a frame that is too large (`RW1`, its bytes) and of a branch that doesn't reach (`B1`, its distance). It is
-/// `FILE: CODE at OFFSET` for a function table.
+/// `FILE: CODE at OFFSET` for a function table and for bytes that are no image, and `FILE: CODE at ADDRESS` for an image that
+/// isn't sound; there K1 has `profile`, or the code of the image's or the table's fault at its offset, behind it, and K3 the
+/// flow rule, with two depths where that is F1. It is `FILE:LINE: CODE` for a text that is no dump too, `FILE: DU3` for a dump of
+/// another machine, and `FILE: CODE VALUE` for a walk that can't go on, with the depth behind the value where the code is U5.
 /// `Memory` comes only for want of memory.
 pub fn line_of(alloc: Global, refusal: &Refusal, files: &[Name]) -> Result<Bytes, Memory>
     requires cause { HasCause refusal.now }
@@ -34,6 +39,10 @@ pub fn line_of(alloc: Global, refusal: &Refusal, files: &[Name]) -> Result<Bytes
         Refusal::Rewrite(no) => of_rewriting(alloc, *no, files),
         Refusal::Size(no) => of_sizes(alloc, *no, files),
         Refusal::Table(no) => of_table(alloc, *no, files),
+        Refusal::Image(no) => of_image(alloc, name_in(files, 0), *no),
+        Refusal::Check(no) => of_check(alloc, name_in(files, 0), *no),
+        Refusal::Dump(no) => of_dump(alloc, name_in(files, 0), *no),
+        Refusal::Chain(no) => of_chain(alloc, name_in(files, 0), *no),
     }
 }
 
@@ -122,21 +131,6 @@ fn of_sizes(alloc: Global, no: SizeNo, files: &[Name]) -> Result<Bytes, Memory>
     match no {
         SizeNo::B1(pos, distance) => at_place_with(alloc, files, pos, b"B1", distance),
         SizeNo::Memory => unreachable!(),
-    }
-}
-
-// The code and the offset of a table's fault.
-fn table_fault(fault: TableNo) -> (&'static [u8], u64)
-    ensures code { result.0.now ≡ table_code fault }
-    ensures offset { result.1 ≡ table_offset fault }
-{
-    match fault {
-        TableNo::TB1(offset) => (b"TB1", offset),
-        TableNo::TB2(offset) => (b"TB2", offset),
-        TableNo::TB3(offset) => (b"TB3", offset),
-        TableNo::TB4(offset) => (b"TB4", offset),
-        TableNo::TB5(offset) => (b"TB5", offset),
-        TableNo::TB6(offset) => (b"TB6", offset),
     }
 }
 

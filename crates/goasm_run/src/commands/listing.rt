@@ -11,17 +11,20 @@ ghost use Rattle.goasm_text.specs.declared.refusal.Refusal.TheVariants as refusa
 ghost use Rattle.goasm_text.specs.Lines.{HasCause, HasName};
 ghost use Rattle.goasm_run.specs.declared.architecture.Architecture.{Architecture};
 ghost use Rattle.goasm_run.specs.declared.architecture.Architecture.TheVariants as spoken;
+ghost use Rattle.goasm_run.specs.Builds.{build_answer};
 ghost use Rattle.goasm_run.specs.BuildsMade.{AreExpanded};
 ghost use Rattle.goasm_run.specs.Changes.{shelf_change};
 ghost use Rattle.goasm_run.specs.Endings.{Text};
 ghost use Rattle.goasm_run.specs.Listing.{units_of, listing_judge, listing_plan};
 ghost use Rattle.goasm_run.specs.Questions.{IsListed, told_as};
+ghost use Rattle.goasm_run.specs.SourcesLexed.{AreNumbered};
 ghost use Rattle.goasm_run.specs.Stops.{Settles, Answers};
 ghost use Rattle.goasm_run.specs.Targets.{speaks};
 ghost use Rattle.goasm_run.specs.UnitsSaid.{Serves, ListingStopped, IsUnparsed, IsUnlisted};
 
 use crate::architecture::Architecture;
-use crate::build::built;
+use crate::build::{built, parts_of};
+use crate::part::Part;
 use crate::stop::Stop;
 use amd64_select::Amd64;
 use asm_lex::Tokens;
@@ -43,7 +46,21 @@ pub fn listing<F: Shelf>(
 ) -> Result<Bytes, Stop>
     ensures { Answers (shelf_change F.holds F.faults F.reads shelf.old shelf.new) (listing_plan architecture list.now) result }
 {
-    let build = built(alloc, shelf, list)?;
+    let parts = parts_of(alloc, shelf, list)?;
+    over_parts(alloc, architecture, list, parts.as_slice())
+}
+
+// The listing of the build of parts.
+fn over_parts(
+    alloc: Global,
+    architecture: Architecture,
+    list: &[u8],
+    parts: &[Part],
+) -> Result<Bytes, Stop>
+    requires { AreNumbered parts.now }
+    ensures { Settles (build_answer (listing_judge architecture) list.now parts.now) result }
+{
+    let build = built(alloc, list, parts)?;
     over_sources(
         alloc,
         architecture,
@@ -57,7 +74,7 @@ fn over_sources(
     alloc: Global,
     architecture: Architecture,
     files: &[Name],
-    sources: &[Tokens],
+    sources: &[Tokens<'_>],
 ) -> Result<Bytes, Stop>
     requires { AreExpanded files.now sources.now }
     ensures { Settles (listing_judge architecture files.now sources.now) result }
@@ -79,7 +96,7 @@ fn is_amd64_word(name: &[u8]) -> bool
 fn for_target<T: Target, W: Fn(&[u8]) -> bool + Copy>(
     alloc: Global,
     files: &[Name],
-    sources: &[Tokens],
+    sources: &[Tokens<'_>],
     is_word: W,
 ) -> Result<Bytes, Stop>
     requires askable { IsAskable (W.pre is_word) }
@@ -112,7 +129,7 @@ fn unparsed(alloc: Global, files: &[Name], no: ParseNo) -> Stop
 // What the sources say, or the first refusal in their order.
 fn units<W: Fn(&[u8]) -> bool + Copy>(
     alloc: Global,
-    sources: &[Tokens],
+    sources: &[Tokens<'_>],
     is_word: W,
 ) -> Result<List<Unit>, ParseNo>
     requires askable { IsAskable (W.pre is_word) }

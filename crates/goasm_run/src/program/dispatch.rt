@@ -5,9 +5,12 @@ ghost use Rattle.goasm_run.specs.Stops.{AnswersWords};
 use crate::architecture::Architecture;
 use crate::command::Command;
 use crate::commands::bytes::bytes;
+use crate::commands::call_chain::call_chain;
 use crate::commands::expand::expand;
+use crate::commands::image::image;
 use crate::commands::listing::listing;
 use crate::commands::lookup::lookup;
+use crate::image_text::ImageText;
 use crate::stop::Stop;
 use crate::words::Words;
 use goasm_base::{Bytes, Shelf, read_number};
@@ -40,7 +43,11 @@ fn one_word<F: Shelf>(
 {
     match command {
         Some(Command::Expand) => expand(alloc, shelf, first.as_slice()),
-        Some(Command::Lookup | Command::Bytes | Command::Listing) | None => Err(Stop::Words),
+        Some(Command::Check) => image(alloc, shelf, ImageText::Count, first.as_slice()),
+        Some(Command::Dis) => image(alloc, shelf, ImageText::Code, first.as_slice()),
+        Some(Command::Lookup | Command::Bytes | Command::Listing | Command::Unwind) | None => {
+            Err(Stop::Words)
+        }
     }
 }
 
@@ -66,6 +73,7 @@ fn two_words<F: Shelf>(
             Some(architecture) => listing(alloc, shelf, architecture, second.as_slice()),
             None => Err(Stop::Words),
         },
-        Some(Command::Expand) | None => Err(Stop::Words),
+        Some(Command::Unwind) => call_chain(alloc, shelf, first.as_slice(), second.as_slice()),
+        Some(Command::Expand | Command::Check | Command::Dis) | None => Err(Stop::Words),
     }
 }
