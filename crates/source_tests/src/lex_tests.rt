@@ -34,7 +34,7 @@ const SOURCES: [(&str, &str); 14] = [
     ("1+/*;'\n\n*/\n", "1N1[1]1+S[+]3E[NL]4+E[NL]"),
 ];
 
-fn show(text: &mut Text, token: &Token) -> Result<(), Memory> {
+fn show(text: &mut Text, token: &Token<'_>) -> Result<(), Memory> {
     text.push_unsigned(u64::from(token.pos.line))?;
     if token.glued {
         text.push(b"+")?;

@@ -160,12 +160,17 @@ const LIMITED: [(&str, &str); 12] = [
     ("#define F(a) a\n#define G F\n#define H G\nH(1)", "1:4 1 NL"),
 ];
 
-fn named_tokens(alloc: Global, file: u32, name: &str, text: &str) -> Result<(Name, Tokens), Fail> {
+fn named_tokens<'a>(
+    alloc: Global,
+    file: u32,
+    name: &str,
+    text: &'a str,
+) -> Result<(Name, Tokens<'a>), Fail> {
     let name = Name::from_slice(alloc, name.as_bytes())?;
     Ok((name, lex(alloc, file, text.as_bytes())?))
 }
 
-fn includes(alloc: Global) -> Result<Vec<(Name, Tokens)>, Fail> {
+fn includes<'a>(alloc: Global) -> Result<Vec<(Name, Tokens<'a>)>, Fail> {
     let mut files = Vec::new(alloc);
     let mut file: u32 = 1;
     for (name, text) in INCLUDES {
@@ -175,7 +180,7 @@ fn includes(alloc: Global) -> Result<Vec<(Name, Tokens)>, Fail> {
     Ok(files)
 }
 
-fn defines(alloc: Global) -> Result<Vec<(Name, Tokens)>, Fail> {
+fn defines<'a>(alloc: Global) -> Result<Vec<(Name, Tokens<'a>)>, Fail> {
     let mut values = Vec::new(alloc);
     for (name, text) in DEFINES {
         values.push(named_tokens(alloc, 0, name, text)?)?;
@@ -189,14 +194,14 @@ fn show_place(text: &mut Text, pos: Pos) -> Result<(), Memory> {
     text.push_unsigned(u64::from(pos.line))
 }
 
-fn show_token(text: &mut Text, token: &Token) -> Result<(), Memory> {
+fn show_token(text: &mut Text, token: &Token<'_>) -> Result<(), Memory> {
     match token.text.as_slice() {
         [b'\n'] => text.push(b"NL"),
         bytes => text.push(bytes),
     }
 }
 
-fn show_tokens(text: &mut Text, tokens: &[Token]) -> Result<(), Memory> {
+fn show_tokens(text: &mut Text, tokens: &[Token<'_>]) -> Result<(), Memory> {
     let mut last = Pos { file: 0, line: 0 };
     let mut first = true;
     for token in tokens {
@@ -233,8 +238,8 @@ fn shown(
     alloc: Global,
     limits: Limits,
     source: &str,
-    includes: &[(Name, Tokens)],
-    defines: &[(Name, Tokens)],
+    includes: &[(Name, Tokens<'_>)],
+    defines: &[(Name, Tokens<'_>)],
 ) -> Result<Text, Fail> {
     let mut sources = Vec::new(alloc);
     sources.push(lex(alloc, 1, source.as_bytes())?)?;

@@ -6,8 +6,11 @@ use asm_macro::MacroNo;
 use asm_parse::ParseNo;
 use asm_target::SelectNo;
 use branch_size::SizeNo;
+use elf_image::ImageNo;
+use flow_rules::FlowNo;
 use goasm_base::{Memory, Name, Pos, Text};
 use goasm_text::{Refusal, line_of, push_place};
+use image_rules::{CheckNo, ProfileNo};
 use obj_rewrite::RewriteNo;
 use pclntab::TableNo;
 use std::alloc::Global;
@@ -195,6 +198,84 @@ fn a_table_is_told_by_an_offset(rt: HostRuntime) -> Result<(), Fail> {
         ),
     ] {
         expect(&rt, alloc, &files, &Refusal::Table(fault), want)?;
+    }
+    Ok(())
+}
+
+#[test]
+fn an_image_is_told_by_an_offset(rt: HostRuntime) -> Result<(), Fail> {
+    let alloc = rt.alloc();
+    let files = three_names(alloc)?;
+    for (fault, want) in [
+        (ImageNo::I1(0), b"cas.tab: I1 at 0\n".as_slice()),
+        (ImageNo::I2(168), b"cas.tab: I2 at 168\n"),
+        (ImageNo::I3(12_392), b"cas.tab: I3 at 12392\n"),
+        (
+            ImageNo::I4(u64::MAX),
+            b"cas.tab: I4 at 18446744073709551615\n",
+        ),
+    ] {
+        expect(&rt, alloc, &files, &Refusal::Image(fault), want)?;
+    }
+    Ok(())
+}
+
+#[test]
+fn an_image_that_is_not_sound_is_told_by_an_address(rt: HostRuntime) -> Result<(), Fail> {
+    let alloc = rt.alloc();
+    let files = three_names(alloc)?;
+    let image = CheckNo::K1(ProfileNo::Image(ImageNo::I2(12_968)));
+    let table = CheckNo::K1(ProfileNo::Table(TableNo::TB5(284)));
+    for (no, want) in [
+        (image, b"cas.tab: K1 I2 at 12968\n".as_slice()),
+        (table, b"cas.tab: K1 TB5 at 284\n"),
+        (CheckNo::K1(ProfileNo::Profile), b"cas.tab: K1 profile\n"),
+        (
+            CheckNo::K2(0x40_00b1),
+            b"cas.tab: K2 at 0x00000000004000b1\n",
+        ),
+        (
+            CheckNo::K3(FlowNo {
+                rule: 1,
+                at: 0x40_0154,
+                depths: (2032, 4104),
+            }),
+            b"cas.tab: K3 F1 2032 4104 at 0x0000000000400154\n",
+        ),
+        (
+            CheckNo::K3(FlowNo {
+                rule: 1,
+                at: 0x40_0011,
+                depths: (-32, 0),
+            }),
+            b"cas.tab: K3 F1 -32 0 at 0x0000000000400011\n",
+        ),
+        (
+            CheckNo::K3(FlowNo {
+                rule: 2,
+                at: 0x40_003e,
+                depths: (0, 0),
+            }),
+            b"cas.tab: K3 F2 at 0x000000000040003e\n",
+        ),
+        (
+            CheckNo::K3(FlowNo {
+                rule: 9,
+                at: 0x40_000e,
+                depths: (0, 0),
+            }),
+            b"cas.tab: K3 F9 at 0x000000000040000e\n",
+        ),
+        (
+            CheckNo::K4(0x40_0030),
+            b"cas.tab: K4 at 0x0000000000400030\n",
+        ),
+        (
+            CheckNo::K5(u64::MAX),
+            b"cas.tab: K5 at 0xffffffffffffffff\n",
+        ),
+    ] {
+        expect(&rt, alloc, &files, &Refusal::Check(no), want)?;
     }
     Ok(())
 }
