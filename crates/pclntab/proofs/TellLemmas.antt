@@ -1,5 +1,5 @@
 -- What a written table tells of its functions, and that it is a table.
-use Rattle.std.proofs.Common.{◌≡◌, ℕ, zero, suc, pos, ◌+◌, ◌-◌, ◌*◌, ◌^◌, ◌<◌, ◌≤◌, ◌⊎◌, inl, inr, true, nat_le, List, [], ◌∷◌, length, drop, get_or, slice_index, Some, refl, ap, arith}
+use Rattle.std.proofs.Common.{◌≡◌, ℕ, ℤ, zero, suc, pos, ◌+◌, ◌-◌, ◌*◌, ◌^◌, ◌<◌, ◌≤◌, ◌⊎◌, inl, inr, true, nat_le, List, [], ◌∷◌, ◌++◌, length, drop, get_or, slice_index, Some, refl, ap, arith}
 use Rattle.std.specs.List.{flat_map}
 use Rattle.std.specs.Int.{w32, cast_unsigned}
 use Rattle.std.specs.Int.RustNames.{FitsSigned}
@@ -11,17 +11,19 @@ use Rattle.byte_layout.proofs.StandsLemmas.{stands_in, stands_from, stands_withi
 use Rattle.pcvalue.specs.declared.run.Run.{Run}
 use Rattle.pcvalue.specs.declared.answer.Answer.TheVariants.{Value, Past}
 use Rattle.pcvalue.specs.Table.{value_of, value_in}
+use Rattle.pcvalue.specs.Cover.{Covers, TellsOver}
 use Rattle.pcvalue.specs.Writing.{table_bytes, AreRuns}
-use Rattle.pcvalue.proofs.WritingLemmas.{some_table_bytes}
+use Rattle.pcvalue.proofs.LeastLemmas.{table_least}
+use Rattle.pcvalue.proofs.WritingLemmas.{some_table_bytes, table_stands}
 use Rattle.pcvalue.proofs.ValueLemmas.{values_stand, table_is}
 use Rattle.pclntab.specs.declared.parts.TableParts.{TableParts}
 use Rattle.pclntab.specs.declared.parts.FuncPart.{FuncPart}
 use Rattle.pclntab.specs.Words.{u32_at}
 use Rattle.pclntab.specs.Places.{quantum, record_place, name_place, depth_field, file_field, line_field, unit_field}
 use Rattle.pclntab.specs.Table.{IsHeader, HasTables, HasOrder, IsFunc, IsTable, NamesPcTable, pc_bytes}
-use Rattle.pclntab.specs.Func.{entry_of, name_of, args_of, flags_of, answer_at, file_name, named_by}
+use Rattle.pclntab.specs.Func.{entry_of, name_of, args_of, flags_of, answer_at, FieldTellsOver, file_name, named_by}
 use Rattle.pclntab.specs.Written.{texts, has_table, all_kept, tables_of, kept_of, stored, offset_of, header_over, tables, names_of, written}
-use Rattle.pclntab.specs.Parts.{AreParts, IsFile, to_zero, file_of, TellsPc, Tells}
+use Rattle.pclntab.specs.Parts.{AreParts, IsFile, to_zero, file_of, TellsPc, Tells, TellsAll}
 use Rattle.pclntab.proofs.StockLemmas.{still_all_kept, all_kept-append, stored_stands}
 use Rattle.pclntab.proofs.FuncLemmas.{has_depth, has_file, has_line}
 use Rattle.pclntab.proofs.LengthLemmas.{length-header, length-funcs_bytes, part_within, words_fit}
@@ -82,6 +84,18 @@ offset_short parts runs are has =
 record Names (bytes : List ℕ) (field : ℕ) (runs : List Run) : Type 0 where
   is : NamesPcTable bytes field
   value : (place : ℕ) → value_in (pc_bytes bytes) (u32_at bytes field) (quantum bytes) place ≡ value_of place runs true
+  over : (ends : List ℕ) (values : List ℤ) → Covers 0 ends values runs → FieldTellsOver bytes field ends values
+
+-- a table that was written tells its runs' values of stretches
+over_stands : (quantum : ℕ) (runs : List Run) (table more : List ℕ) (offset : ℕ) (ends : List ℕ) (values : List ℤ)
+    → AreRuns quantum runs → drop offset table ≡ table_bytes quantum runs ++ more → 0 < offset → Covers 0 ends values runs
+    → TellsOver table offset quantum ends values
+over_stands quantum runs table more offset ends values are stands some covers =
+    record {
+      named = some;
+      least = rw stands (table_least quantum runs more are);
+      covers = rw (table_stands quantum runs table more offset are stands) covers;
+    }
 
 names : (parts : TableParts) (field : ℕ) (runs : List Run) → AreParts parts → AreRuns parts.quantum runs
     → has_table (kept_of parts) (table_bytes parts.quantum runs) ≡ true
@@ -95,6 +109,8 @@ names parts field runs are_parts are has known =
           (table_is parts.quantum runs (drop (start_of parts 3) (written parts)) stands.behind (offset_of (kept_of parts) (table_bytes parts.quantum runs)) are stands.is (omega arith));
       value = λ place. rw (found.pcs, found.unit, known)
           (values_stand parts.quantum runs (drop (start_of parts 3) (written parts)) stands.behind (offset_of (kept_of parts) (table_bytes parts.quantum runs)) place are stands.is (omega arith));
+      over = λ ends values covers. rw (found.pcs, found.unit, known)
+          (over_stands parts.quantum runs (drop (start_of parts 3) (written parts)) stands.behind (offset_of (kept_of parts) (table_bytes parts.quantum runs)) ends values are stands.is (omega arith) covers);
     }
 
 place_is : (parts : TableParts) (index : ℕ) → AreParts parts → index < length parts.funcs
@@ -199,6 +215,12 @@ flags_told parts index d are inside =
     rw ((told parts are).line, place_is parts index are inside)
     (flags_read parts index d (record_start parts index + 37 + 4) inside (omega arith))
 
+unit_told : (parts : TableParts) (index : ℕ) (d : FuncPart) → AreParts parts → index < length parts.funcs
+    → u32_at (written parts) (unit_field (written parts) index) ≡ 0
+unit_told parts index d are inside =
+    rw (place_is parts index are inside)
+    (field_read parts index d 8 (record_start parts index + 32) 0 inside (omega arith) refl (omega arith) refl)
+
 pc_told : (parts : TableParts) (index : ℕ) (d : FuncPart) (pc : ℕ) → AreParts parts → index < length parts.funcs
     → TellsPc parts (written parts) index (get_or parts.funcs index d) pc
 unfolding answer_at
@@ -206,9 +228,7 @@ pc_told parts index d pc are inside =
     let depth = names_depth parts index d are inside in
     let line = names_line parts index d are inside in
     let file = names_file parts index d are inside in
-    let unit : u32_at (written parts) (unit_field (written parts) index) ≡ 0
-    = rw (place_is parts index are inside)
-    (field_read parts index d 8 (record_start parts index + 32) 0 inside (omega arith) refl (omega arith) refl) in
+    let unit : u32_at (written parts) (unit_field (written parts) index) ≡ 0 = unit_told parts index d are inside in
     record {
       depth = depth.value (pc - entry_of (written parts) index);
       line = line.value (pc - entry_of (written parts) index);
@@ -231,10 +251,24 @@ tells parts are =
       last = rw ((told parts are).text, (told parts are).funcs) (ap (λ n. parts.text_start + n) (end_read parts are));
     }
 
--- and it is a table
-
 abbrev no_part : FuncPart
 no_part = record { name = []; entry = 0; args = pos 0; flags = 0; start_line = pos 0; depth = []; file = []; line = [] }
+
+pub tells_all : (parts : TableParts) → AreParts parts → TellsAll parts (written parts)
+tells_all parts are =
+    record {
+      unit = (told parts are).unit;
+      entries = λ index d inside. rw (told parts are).funcs (entry_read parts index d are inside);
+      last = rw (told parts are).funcs (end_read parts are);
+      stretches = λ index d inside. record {
+        depths = (names_depth parts index d are inside).over;
+        lines = (names_line parts index d are inside).over;
+        files = (names_file parts index d are inside).over;
+      };
+      files = λ index number inside there. rw (unit_told parts index no_part are inside) (file_by parts number are there);
+    }
+
+-- and it is a table
 
 header_is : (parts : TableParts) → AreParts parts → IsHeader (written parts)
 header_is parts are =

@@ -1,16 +1,18 @@
 -- From which parts a function table can be written, and what it tells of them.
-use Rattle.std.specs.Prelude.{◌≡◌, ◌⊎◌, ℕ, pos, negsuc, List, [], ◌+◌, ◌-◌, ◌^◌, ◌<◌, ◌≤◌, All, length, take_while, not, FitsSigned, Option, Some, None, slice_index_or, true}
+use Rattle.std.specs.Prelude.{◌≡◌, ◌⊎◌, ℕ, ℤ, pos, negsuc, List, [], ◌+◌, ◌-◌, ◌^◌, ◌<◌, ◌≤◌, All, length, take_while, not, FitsSigned, Option, Some, None, slice_index_or, true}
 use Rattle.std.specs.Int.{w32}
 use Rattle.pcvalue.specs.declared.run.Run.{Run}
 use Rattle.pcvalue.specs.declared.answer.Answer.{Answer}
 use Rattle.pcvalue.specs.declared.answer.Answer.TheVariants.{Absent, Value, Past, Bad}
 use Rattle.pcvalue.specs.Table.{value_of}
+use Rattle.pcvalue.specs.Cover.{Covers}
 use Rattle.pcvalue.specs.Writing.{AreRuns}
 use Rattle.pclntab.specs.declared.parts.TableParts.{TableParts}
 use Rattle.pclntab.specs.declared.parts.FuncPart.{FuncPart}
-use Rattle.pclntab.specs.Places.{func_count, text_start}
+use Rattle.pclntab.specs.Words.{u32_at}
+use Rattle.pclntab.specs.Places.{quantum, func_count, text_start, entry_offset, unit_field}
 use Rattle.pclntab.specs.Texts.{is_zero}
-use Rattle.pclntab.specs.Func.{entry_of, name_of, args_of, flags_of, depth_at, line_at, file_at}
+use Rattle.pclntab.specs.Func.{entry_of, name_of, args_of, flags_of, depth_at, line_at, file_at, DepthsOver, LinesOver, FilesOver, numbered_from}
 use Rattle.pclntab.specs.Written.{written}
 
 -- the number of one of so many files
@@ -78,3 +80,22 @@ pub record Tells (parts : TableParts) (bytes : List ℕ) : Type 0 where
       → TellsFunc parts bytes index (slice_index_or parts.funcs index d)
   -- where a further function would begin, the last one ends: with the text
   pub last : entry_of bytes (length parts.funcs) ≡ parts.text_start + parts.text_len
+
+-- What it tells of stretches of a function: where a list of the function gives them these values, the table that the field
+-- for that list names is in its least form and gives them the same.
+pub record TellsStretches (bytes : List ℕ) (index : ℕ) (func : FuncPart) : Type 0 where
+  pub depths : (ends : List ℕ) (values : List ℤ) → Covers 0 ends values func.depth → DepthsOver bytes index ends values
+  pub lines : (ends : List ℕ) (values : List ℤ) → Covers 0 ends values func.line → LinesOver bytes index ends values
+  pub files : (ends : List ℕ) (values : List ℤ) → Covers 0 ends values func.file → FilesOver bytes index ends values
+
+-- what it tells beside single addresses: its numbers as they were given, stretches, and the name of each file's number
+pub record TellsAll (parts : TableParts) (bytes : List ℕ) : Type 0 where
+  pub unit : quantum bytes ≡ parts.quantum
+  pub entries : (index : ℕ) (d : FuncPart) → index < length parts.funcs
+      → entry_offset bytes index ≡ (slice_index_or parts.funcs index d).entry
+  pub last : entry_offset bytes (length parts.funcs) ≡ parts.text_len
+  pub stretches : (index : ℕ) (d : FuncPart) → index < length parts.funcs
+      → TellsStretches bytes index (slice_index_or parts.funcs index d)
+  pub files : (index number : ℕ) → index < length parts.funcs → number < length parts.files
+      → numbered_from bytes (u32_at bytes (unit_field bytes index)) (pos number)
+      ≡ Some (to_zero (slice_index_or parts.files number []))

@@ -7,7 +7,7 @@ ghost use Rattle.pclntab.specs.Places.{header_size};
 ghost use Rattle.pclntab.specs.Table.{IsTable};
 ghost use Rattle.pclntab.specs.Written as spec;
 ghost use Rattle.pclntab.specs.Written.{text_bytes, texts, starts, words, tables_of, longs, all_kept, kept_of, stored, rows, record_bytes, records, pairs, first_record, funcs_bytes, names_of, tables, header_over, written_over, written};
-ghost use Rattle.pclntab.specs.Parts.{AreParts, IsFuncPart, Tells};
+ghost use Rattle.pclntab.specs.Parts.{AreParts, IsFuncPart, Tells, TellsAll};
 ghost use Rattle.pclntab.specs.Stock.{IsStock, tables_in};
 ghost use Rattle.pclntab.specs.Writing.{FitWords, HasRuns, five_of};
 
@@ -28,6 +28,7 @@ pub fn write(alloc: Global, parts: &TableParts) -> Result<Bytes, Memory>
     // `Table::read` takes it, and gives the parts back.
     ensures table { IfOk result (λ bytes. IsTable bytes) }
     ensures tells { IfOk result (λ bytes. Tells parts.now bytes) }
+    ensures all { IfOk result (λ bytes. TellsAll parts.now bytes) }
 {
     let bytes = write_bytes(alloc, parts)?;
     Ok(Bytes::new(bytes))
