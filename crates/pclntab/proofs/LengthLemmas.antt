@@ -114,11 +114,11 @@ runs_are parts are index d inside =
     record { depth = part.depth; file = part.file; line = part.line }
 
 -- all lengths together
-sum_lengths : List (List ℕ) → ℕ
+unfoldable pub sum_lengths : List (List ℕ) → ℕ
 sum_lengths [] = 0
 sum_lengths (part ∷ parts) = length part + sum_lengths parts
 
-ends_sum : (unit at : ℕ) (parts : List (List ℕ)) → at + sum_lengths parts ≤ ends unit at parts
+pub ends_sum : (unit at : ℕ) (parts : List (List ℕ)) → at + sum_lengths parts ≤ ends unit at parts
 unfolding ends sum_lengths
 ends_sum unit at [] = omega arith
 ends_sum unit at (part ∷ parts) =

@@ -9,6 +9,7 @@ pub mod FaultLemmas
 mod ReadLemmas
 mod HeaderLemmas
 mod RowLemmas
+mod BoundLemmas
 mod TellLemmas
 pub mod WorkedLemmas
 mod Examples

@@ -209,7 +209,7 @@ start_there at (file ∷ files) (suc index) inside =
     = omega (arith, length-append (text_bytes file) (flat_map text_bytes (take index files))) in
     start_there (at + length (text_bytes file)) files index (omega arith) ∙ same
 
-length-starts : (at : ℕ) (files : List (List ℕ)) → length (starts at files) ≡ length files
+pub length-starts : (at : ℕ) (files : List (List ℕ)) → length (starts at files) ≡ length files
 unfolding starts
 length-starts at [] = refl
 length-starts at (file ∷ files) = ap suc (length-starts (at + length (text_bytes file)) files)

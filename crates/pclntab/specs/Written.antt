@@ -1,7 +1,7 @@
 -- How a function table is written: the header, then names, units' files, file names, pc-value tables and functions, each
 -- at the next multiple of 8 with zeros before it.
 use Rattle.std.specs.Prelude.{ℕ, Bool, List, [], ◌∷◌, ◌++◌, ◌+◌, ◌*◌, length, map, bytes_eq, if◌then◌else◌}
-use Rattle.std.specs.List.{flat_map, list_any}
+use Rattle.std.specs.List.{flat_map, list_any, sum_by}
 use Rattle.std.specs.Int.{w32, cast_unsigned}
 use Rattle.byteorder.specs.Endian.{little_bytes}
 use Rattle.byte_layout.specs.Joined.{joined, places}
@@ -118,3 +118,15 @@ written_over parts five = joined 8 (header_over parts five) five
 
 unfoldable pub written : TableParts → List ℕ
 written parts = written_over parts (tables parts)
+
+-- how many runs the three lists of a function have
+abbrev pub run_count : FuncPart → ℕ
+run_count func = length func.depth + length func.file + length func.line
+
+-- No written table is longer. A run takes at most ten bytes, since its two numbers take at most five each; a function 55,
+-- for its pair, its record and the ends of its three pc-value tables; a file four, for the offset of its name. The header,
+-- the gaps, the zero byte before the pc-value tables and the end of the last function take at most 112.
+abbrev pub length_bound : TableParts → ℕ
+length_bound parts =
+    112 + length (texts (names_of parts.funcs)) + length (texts parts.files) + 4 * length parts.files
+    + 55 * length parts.funcs + 10 * sum_by run_count parts.funcs

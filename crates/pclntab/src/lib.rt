@@ -6,6 +6,7 @@ mod fault;
 mod func;
 mod funcs;
 mod judge;
+mod laws;
 mod names;
 mod parts;
 mod pc_tables;
@@ -17,6 +18,7 @@ mod writing;
 
 pub use fault::TableNo;
 pub use func::Func;
+pub use laws::written_lengths;
 pub use parts::{FuncPart, TableParts};
 pub use table::Table;
 pub use writing::write;
