@@ -1,21 +1,43 @@
--- Parts that are small enough for an image below 2 ^ 32 bytes.
-use Rattle.std.proofs.Common.{◌≡◌, ◌+◌, ◌*◌, ◌<◌, ◌≤◌, ◌^◌, List, ◌∷◌, length, ◌∙◌, ap, arith, length-append}
-use Rattle.std.specs.List.{flat_map}
+-- How long an image is, and parts that are small enough for one below 2 ^ 32 bytes.
+use Rattle.std.proofs.Common.{◌≡◌, ◌+◌, ◌*◌, ◌<◌, ◌≤◌, ◌^◌, List, [], ◌∷◌, length, refl, ◌∙◌, ap, arith, length-append}
+use Rattle.std.specs.List.{flat_map, sum_by}
+use Rattle.std.proofs.lemmas.List.Sums.{sum_by-cons}
 use Rattle.byte_layout.proofs.JoinedLemmas.{aligned_near}
 use Rattle.elf_image.specs.declared.parts.SymbolPart.{SymbolPart}
 use Rattle.elf_image.specs.declared.parts.ImageParts.{ImageParts}
 use Rattle.elf_image.specs.Rows.{rows_bytes}
 use Rattle.elf_image.specs.Symbols.{null_symbol}
-use Rattle.elf_image.specs.Layout.{text_end, table_end, values_end, symbols_end, strings_end, labels_end}
+use Rattle.elf_image.specs.Layout.{text_end, table_end, values_end, symbols_end, strings_end, labels_end, image_length}
 use Rattle.elf_image.specs.Written.{parts_bytes, symbol_bytes, name_bytes, string_bytes, sizes_of, image_bytes}
 use Rattle.elf_image.proofs.LaidLemmas.{laid}
 use Rattle.elf_image.proofs.PartLemmas.{length_parts}
 
-length_symbols : (symbols : List SymbolPart) → length (symbol_bytes symbols) ≡ 24 + 24 * length symbols
+pub length_symbols : (symbols : List SymbolPart) → length (symbol_bytes symbols) ≡ 24 * (1 + length symbols)
 unfolding symbol_bytes rows_bytes
 length_symbols symbols =
     let rest = length_parts 1 symbols in
-    length-append (rows_bytes null_symbol) (parts_bytes 1 symbols) ∙ ap (λ n. 24 + n) rest
+    let both : length (symbol_bytes symbols) ≡ 24 + 24 * length symbols
+    = length-append (rows_bytes null_symbol) (parts_bytes 1 symbols) ∙ ap (λ n. 24 + n) rest in
+    omega arith
+
+sum_names : (symbols : List SymbolPart) → length (flat_map name_bytes symbols) ≡ sum_by (λ symbol. length symbol.name + 1) symbols
+sum_names [] = refl
+sum_names (symbol ∷ symbols) =
+    let rest = sum_names symbols in
+    omega (
+      arith,
+      rest,
+      length-append (name_bytes symbol) (flat_map name_bytes symbols),
+      length-append symbol.name (0 ∷ []),
+      sum_by-cons (λ (one : SymbolPart). length one.name + 1) symbol symbols,
+    )
+
+pub sum_strings : (symbols : List SymbolPart) → length (string_bytes symbols) ≡ 1 + sum_by (λ symbol. length symbol.name + 1) symbols
+unfolding string_bytes
+sum_strings symbols = omega (arith, sum_names symbols)
+
+pub length_image : (parts : ImageParts) → length (image_bytes parts) ≡ image_length (sizes_of parts)
+length_image parts = (laid parts).long
 
 length_strings : (symbols : List SymbolPart) → length (string_bytes symbols) ≤ length (flat_map name_bytes symbols) + 1
 unfolding string_bytes

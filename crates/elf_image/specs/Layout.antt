@@ -62,6 +62,10 @@ labels_end sizes = labels_offset sizes + labels_size
 abbrev pub sections_offset : Sizes → ℕ
 sections_offset sizes = aligned 8 (labels_end sizes)
 
+-- how many bytes the image has: behind the section headers nothing stands
+abbrev pub image_length : Sizes → ℕ
+image_length sizes = sections_offset sizes + sections_size
+
 abbrev pub layout_of : Sizes → Layout
 layout_of sizes = record {
   table = table_offset sizes;

@@ -1,7 +1,7 @@
 ghost use Rattle.std.specs.Prelude.{◌≡◌, ◌+◌, ◌^◌, ◌<◌, ◌≤◌, length};
 ghost use Rattle.byte_layout.specs.Joined as joined;
 ghost use Rattle.elf_image.specs.Layout as spec;
-ghost use Rattle.elf_image.specs.Layout.{sections_in, sections_size, headers_size};
+ghost use Rattle.elf_image.specs.Layout.{sections_in, sections_size, headers_size, image_length};
 
 use crate::rows::Width;
 
@@ -47,11 +47,16 @@ pub fn labels() -> &'static [u8]
 /// The sizes of an image's parts in bytes.
 #[derive(Clone, Copy)]
 pub struct Sizes {
+    /// Of the bytes of the functions.
     pub text: u64,
+    /// Of the function table.
     pub table: u64,
+    /// Of the bytes of the values.
     pub values: u64,
-    /// Of the symbol table and of the symbols' names.
+    /// Of the symbol table: 24 for each symbol, and 24 for the null symbol before them (ELF-64 Object File Format, "Symbol
+    /// table").
     pub symbols: u64,
+    /// Of the symbols' names: a zero byte, and then each name with the zero byte that ends it.
     pub strings: u64,
 }
 
@@ -99,6 +104,20 @@ pub fn layout_of(sizes: Sizes) -> Layout
         labels,
         sections,
     }
+}
+
+/// How many bytes an image has whose parts have these sizes, with the headers and the zeros between the parts. `write`
+/// takes parts whose image is shorter than 2^32 bytes.
+#[tactic(auto, using(crate::proofs::LayoutLemmas::sections_near))]
+pub fn image_size(sizes: Sizes) -> u64
+    requires text { sizes.text < 2 ^ 32 }
+    requires table { sizes.table < 2 ^ 32 }
+    requires values { sizes.values < 2 ^ 32 }
+    requires symbols { sizes.symbols < 2 ^ 32 }
+    requires strings { sizes.strings < 2 ^ 32 }
+    ensures { result ≡ image_length sizes }
+{
+    layout_of(sizes).sections + SECTIONS_SIZE
 }
 
 /// Where the section headers begin, as the header says.

@@ -7,6 +7,7 @@ mod group;
 mod headers;
 mod image;
 mod judge;
+mod laws;
 mod layout;
 mod outside;
 mod parts;
@@ -18,5 +19,7 @@ mod writer;
 
 pub use fault::ImageNo;
 pub use image::{Image, view};
+pub use laws::image_lengths;
+pub use layout::{Sizes, image_size};
 pub use parts::{ImageParts, SymbolPart};
 pub use writer::write;

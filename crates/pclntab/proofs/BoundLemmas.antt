@@ -9,7 +9,7 @@ use Rattle.pcvalue.specs.declared.run.Run.{Run}
 use Rattle.pcvalue.specs.Writing.{number_bytes_within, number_bytes, zigzag_code, no_run, run_bytes, bytes_behind, table_bytes}
 use Rattle.pclntab.specs.declared.parts.TableParts.{TableParts}
 use Rattle.pclntab.specs.declared.parts.FuncPart.{FuncPart}
-use Rattle.pclntab.specs.Written.{text_bytes, texts, starts, words, has_table, kept, all_kept, tables_of, kept_of, stored, funcs_bytes, names_of, tables, header_over, written_over, written, run_count, length_bound}
+use Rattle.pclntab.specs.Written.{text_bytes, texts, starts, has_table, kept, all_kept, tables_of, kept_of, stored, names_of, tables, header_over, written_over, written, run_count, length_bound}
 use Rattle.pclntab.proofs.StockLemmas.{kept_there, kept_new, stored_push}
 use Rattle.pclntab.proofs.LengthLemmas.{length-words, length-header, length-funcs_bytes, sum_lengths, ends_sum}
 use Rattle.pclntab.proofs.RowLemmas.{length-starts}
