@@ -1,3 +1,8 @@
+ghost use Rattle.std.specs.Prelude.{◌≡◌, [], map, codes, IfOk};
+ghost use Rattle.std.specs.List.{AllByRecursion};
+ghost use Rattle.go_types.specs.Kinds.{kind_of, plain as plain_kind, array as array_kind, structure, field, no_fields, IsSoundKind};
+ghost use Rattle.go_types.specs.Signatures.{parameter_of, signature_of, IsSoundParameter, IsSoundSignature};
+
 use crate::made::{PLACE, array, func, named, param, plain, unnamed};
 use abi0_layout::{Layout, LayoutNo, lay_out};
 use go_types::{Func, GoType, Param};
@@ -21,7 +26,9 @@ fn shown(alloc: Global, layout: &Layout) -> Result<Bytes, Memory> {
     Ok(text.finish())
 }
 
-fn laid_out(alloc: Global, func: &Func) -> Result<Bytes, LayoutNo> {
+fn laid_out(alloc: Global, func: &Func) -> Result<Bytes, LayoutNo>
+    requires { IsSoundSignature (signature_of func.now) }
+{
     let layout = lay_out(alloc, func)?;
     Ok(shown(alloc, &layout)?)
 }
@@ -40,7 +47,9 @@ fn arguments_stand_in_order(rt: HostRuntime) -> Result<(), LayoutNo> {
     Ok(())
 }
 
-fn three(alloc: Global) -> Result<Vec<Param>, Memory> {
+fn three(alloc: Global) -> Result<Vec<Param>, Memory>
+    ensures { IfOk result (λ list. AllByRecursion IsSoundParameter (map parameter_of list.items)) }
+{
     let mut params = Vec::new(alloc);
     params.push(param(alloc, b"ptr", plain(8, 8))?)?;
     params.push(param(alloc, b"old", plain(4, 4))?)?;
@@ -48,13 +57,20 @@ fn three(alloc: Global) -> Result<Vec<Param>, Memory> {
     Ok(params)
 }
 
-fn one(alloc: Global, param: Param) -> Result<Vec<Param>, Memory> {
+fn one(alloc: Global, param: Param) -> Result<Vec<Param>, Memory>
+    requires { IsSoundKind (kind_of param.kind) }
+    ensures { IfOk result (λ list. AllByRecursion IsSoundParameter (map parameter_of list.items)) }
+{
     let mut list = Vec::new(alloc);
     list.push(param)?;
     Ok(list)
 }
 
-fn two(alloc: Global, first: Param, second: Param) -> Result<Vec<Param>, Memory> {
+fn two(alloc: Global, first: Param, second: Param) -> Result<Vec<Param>, Memory>
+    requires first { IsSoundKind (kind_of first.kind) }
+    requires second { IsSoundKind (kind_of second.kind) }
+    ensures { IfOk result (λ list. AllByRecursion IsSoundParameter (map parameter_of list.items)) }
+{
     let mut list = one(alloc, first)?;
     list.push(second)?;
     Ok(list)
@@ -97,7 +113,10 @@ fn elements_and_fields_are_named(rt: HostRuntime) -> Result<(), LayoutNo> {
     Ok(())
 }
 
-fn fields(alloc: Global) -> Result<GoType, Memory> {
+fn fields(alloc: Global) -> Result<GoType, Memory>
+    ensures { IfOk result (λ made. kind_of made ≡ structure (field (codes "f") (plain_kind 1 1)
+        (field (codes "g") (array_kind 0 (plain_kind 8 8)) (field (codes "h") (plain_kind 4 4) no_fields)))) }
+{
     let none = array(alloc, 0, plain(8, 8))?;
     let mut fields = Vec::new(alloc);
     fields.push(named(alloc, b"f", plain(1, 1))?)?;
@@ -106,7 +125,9 @@ fn fields(alloc: Global) -> Result<GoType, Memory> {
     Ok(GoType::Struct { fields })
 }
 
-fn refusal_of(alloc: Global, kind: GoType) -> Result<Option<LayoutNo>, Memory> {
+fn refusal_of(alloc: Global, kind: GoType) -> Result<Option<LayoutNo>, Memory>
+    requires { IsSoundKind (kind_of kind) }
+{
     let params = one(alloc, unnamed(kind))?;
     match lay_out(alloc, &func(alloc, params, Vec::new(alloc))?) {
         Ok(_) => Ok(None),
