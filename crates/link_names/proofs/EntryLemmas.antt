@@ -1,12 +1,11 @@
 -- What the map of names answers, seen without where the names lie in memory.
-use Rattle.std.proofs.Common.{◌≡◌, Bool, true, false, cond, inl, inr, ℕ, List, [], ◌∷◌, ◌++◌, map, Option, Some, None, refl, sym, ap, ◌∙◌}
+use Rattle.std.proofs.Common.{◌≡◌, Bool, cond, inl, inr, ℕ, List, [], ◌∷◌, ◌++◌, map, Option, Some, None, refl, sym, ap}
 use Rattle.std.proofs.lemmas.Bool.{cases_Bool}
-use Rattle.std.specs.Prelude.{bytes_eq}
 use Rattle.std.specs.Borrow.{Bor}
 use Rattle.std.specs.Map.{lookup}
 use Rattle.indexmap.specs.IndexMap.{insert_entry}
 use Rattle.link_names.specs.declared.definition.Definition.{Definition}
-use Rattle.link_names.specs.Definitions.{Key, Entry, is_same}
+use Rattle.link_names.specs.Definitions.{Key, is_same}
 use Rattle.link_names.specs.Adding.{entry_seen, first_of, with_entry}
 
 abbrev Stored : Type 0

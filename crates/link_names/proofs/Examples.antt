@@ -1,9 +1,8 @@
 -- The definitions, computed on two small units.
-use Rattle.std.proofs.Common.{◌≡◌, ℕ, ℤ, List, [], ◌∷◌, codes, Some, None, refl}
+use Rattle.std.proofs.Common.{◌≡◌, ℕ, ℤ, true, false, List, [], ◌∷◌, codes, Some, None, refl}
 use Rattle.goasm_base.specs.declared.pos.Pos.{Pos}
 use Rattle.goasm_base.specs.declared.statement.Function.{Function}
 use Rattle.asm_parse.specs.declared.unit.Unit.{Unit as Said}
-use Rattle.asm_parse.specs.declared.unit.Symbol.{Symbol}
 use Rattle.asm_parse.specs.declared.unit.DataPart.{DataPart}
 use Rattle.asm_parse.specs.declared.unit.GlobalPart.{GlobalPart}
 use Rattle.link_names.specs.declared.definition.Meaning.TheVariants as means

@@ -1,5 +1,5 @@
 -- Which symbols are the same, and the first definition of one.
-use Rattle.std.proofs.Common.{◌≡◌, Bool, true, false, cond, inl, inr, ◌&&◌, ℕ, zero, suc, List, [], ◌∷◌, ◌++◌, Option, Some, None, refl, sym, ap, ◌∙◌, arith}
+use Rattle.std.proofs.Common.{◌≡◌, true, false, inl, inr, ℕ, zero, suc, List, [], ◌∷◌, ◌++◌, Option, Some, None, refl, sym, ap, arith}
 use Rattle.std.proofs.lemmas.Bool.{cases_Bool}
 use Rattle.std.specs.Prelude.{bytes_eq, nat_eq, slice_get}
 use Rattle.std.specs.Cmp.Lexicographic.{same_text}
