@@ -1,6 +1,6 @@
 use crate::one_function::one_function;
 use byte_layout::{pad, push_part, push_u32, push_u64, push_words};
-use elf_image::{ImageNo, view};
+use elf_image::{ImageNo, Sizes, image_size, view};
 use std::alloc::Global;
 use std::process::Abort;
 use std::test::Fail;
@@ -130,6 +130,31 @@ fn an_image_is_written(rt: HostRuntime) -> Result<(), Fail> {
     assert_eq!(rt; image.table(), TABLE);
     assert_eq!(rt; image.values().len(), 0);
     assert!(rt; image.outside(0).is_none());
+    Ok(())
+}
+
+// The sizes are those in the section headers of `END` and of `BACK`.
+#[test]
+fn a_size_is_the_length_of_the_image(rt: HostRuntime) -> Result<(), Fail> {
+    let Ok(bytes) = one_function(rt.alloc(), &CODE, TABLE) else {
+        return Err(Fail::from("no memory"));
+    };
+    let one = Sizes {
+        text: 32,
+        table: 168,
+        values: 0,
+        symbols: 48,
+        strings: 8,
+    };
+    assert_eq!(rt; image_size(one), bytes.as_slice().len() as u64);
+    let several = Sizes {
+        text: 128,
+        table: 168,
+        values: 40,
+        symbols: 240,
+        strings: 69,
+    };
+    assert_eq!(rt; image_size(several), LENGTH as u64);
     Ok(())
 }
 
