@@ -1,12 +1,12 @@
--- Texts that stand one behind the other, and the first thing that has none.
+-- Lists, as texts, that stand one behind the other, and the first thing that has none.
 use Rattle.std.specs.Prelude.{◌≡◌, ℕ, zero, suc, ◌<◌, List, [], ◌++◌, length, Some}
 use Rattle.std.specs.List.{slice_get}
 
--- the texts of the numbers below a count, one behind the other
-abbrev pub AreJoined : (ℕ → List ℕ → Type 0) → ℕ → List ℕ → Type 0
+-- the lists of the numbers below a count, one behind the other
+abbrev pub AreJoined : {X : Type 0} → (ℕ → List X → Type 0) → ℕ → List X → Type 0
 AreJoined Is zero text = text ≡ []
-AreJoined Is (suc number) text =
-    (before : List ℕ) × (last : List ℕ) × AreJoined Is number before × Is number last × (text ≡ before ++ last)
+AreJoined {X} Is (suc number) text =
+    (before : List X) × (last : List X) × AreJoined Is number before × Is number last × (text ≡ before ++ last)
 
 -- such a text was put behind another
 abbrev pub Appends : (List ℕ → Type 0) → List ℕ → List ℕ → Type 0

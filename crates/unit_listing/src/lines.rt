@@ -120,8 +120,8 @@ fn push_instr<T: Target>(
     push_said(text, spot, said.as_slice(), symbols, laid.flags, refer)
 }
 
-// What the instruction of this number in a form of so many refers to: the last one to what the line does.
-fn refer_in(count: usize, number: usize, refer: Option<Refer>) -> Option<Refer>
+/// What the instruction of this number in a form of so many refers to: the last one to what the line does.
+pub fn refer_in(count: usize, number: usize, refer: Option<Refer>) -> Option<Refer>
     requires { number < count }
     ensures { result ≡ (if number + 1 == count then refer else None) }
 {
@@ -161,24 +161,24 @@ fn push_form<T: Target>(
     Ok(())
 }
 
-// The line of this number.
-fn line_at<I: Copy>(laid: &Laid<I>, number: usize) -> Line<I>
+/// The line of this number.
+pub fn line_at<I: Copy>(laid: &Laid<I>, number: usize) -> Line<I>
     requires { number < length laid.now.body.code }
     ensures { slice_get laid.now.body.code number ≡ Some result }
 {
     laid.body.code.as_slice()[number]
 }
 
-// Its form.
-fn form_at<I>(laid: &Laid<I>, number: usize) -> u8
+/// The form of the line of this number.
+pub fn form_at<I>(laid: &Laid<I>, number: usize) -> u8
     requires { number < length laid.now.sizes.forms }
     ensures { result ≡ slice_index laid.now.sizes.forms number }
 {
     laid.sizes.forms.as_slice()[number]
 }
 
-// Its place.
-fn place_at<I>(laid: &Laid<I>, number: usize) -> u64
+/// The place of the line of this number, in bytes from the function's first instruction.
+pub fn place_at<I>(laid: &Laid<I>, number: usize) -> u64
     requires { number < length laid.now.sizes.places }
     ensures place { result ≡ slice_index laid.now.sizes.places number }
     ensures small { result < 2 ^ 32 }

@@ -17,9 +17,9 @@ pub struct Spot<I> {
     pub at: u64,
 }
 
-// The place of the line that a reference leads to inside the function.
+/// The place of the line that a reference leads to inside the function.
 #[tactic(auto, using(branch_size::proofs::GoalLemmas::same_line))]
-fn place_to<T: Target>(laid: &Laid<T::Instr>, to: To) -> Option<u64>
+pub fn place_to<T: Target>(laid: &Laid<T::Instr>, to: To) -> Option<u64>
     requires { HasGoals (T.check laid.now.body.frame) laid.now.body.code laid.now.goals }
     ensures { result ≡ spec.place_to (T.check laid.now.body.frame) laid.now.body.code laid.now.sizes.places to }
 {
@@ -28,8 +28,8 @@ fn place_to<T: Target>(laid: &Laid<T::Instr>, to: To) -> Option<u64>
     Some(u64::from(*place))
 }
 
-// From where a part of an address is seen.
-fn seen_from(part: Part, back: u64, at: u64) -> u64
+/// From where a part of an address is seen: `at` is the place of its instruction, and `back` that of the line before.
+pub fn seen_from(part: Part, back: u64, at: u64) -> u64
     ensures { result ≡ spec.seen_from part back at }
 {
     match part {
