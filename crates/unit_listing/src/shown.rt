@@ -1,4 +1,4 @@
-ghost use Rattle.std.specs.Prelude.{◌≡◌, IfSome, None, Some};
+ghost use Rattle.std.specs.Prelude.{◌≡◌, ◌<◌, ◌^◌, IfSome, None, Some};
 ghost use Rattle.asm_target.specs.Frames.{IsFrame};
 ghost use Rattle.branch_size.specs.Tables.{HasGoals};
 ghost use Rattle.unit_listing.specs.Kit.{kit_of};
@@ -21,7 +21,8 @@ pub struct Spot<I> {
 #[tactic(auto, using(branch_size::proofs::GoalLemmas::same_line))]
 pub fn place_to<T: Target>(laid: &Laid<T::Instr>, to: To) -> Option<u64>
     requires { HasGoals (T.check laid.now.body.frame) laid.now.body.code laid.now.goals }
-    ensures { result ≡ spec.place_to (T.check laid.now.body.frame) laid.now.body.code laid.now.sizes.places to }
+    ensures place { result ≡ spec.place_to (T.check laid.now.body.frame) laid.now.body.code laid.now.sizes.places to }
+    ensures small { IfSome result (λ place. place < 2 ^ 32) }
 {
     let line = laid.goals.line(to)?;
     let place = laid.sizes.places.as_slice().get(line)?;

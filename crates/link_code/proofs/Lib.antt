@@ -1,0 +1,6 @@
+pub mod AddedLemmas
+pub mod PartLemmas
+pub mod LineLemmas
+pub mod ReadyLemmas
+pub mod DepthLemmas
+pub mod WholeLemmas
