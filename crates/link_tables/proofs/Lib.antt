@@ -1,0 +1,2 @@
+mod MergedLemmas
+mod FinerLemmas
