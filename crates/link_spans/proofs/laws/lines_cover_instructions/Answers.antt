@@ -1,0 +1,47 @@
+use Rattle.branch_size.specs.Lawful.{quantum_kinds}
+use Rattle.obj_rewrite.proofs.BodyLemmas.{frame_laws, pick_laws}
+use Rattle.obj_rewrite.proofs.SettledLemmas.{settled}
+use Rattle.unit_listing.specs.Kit.{kit_of}
+use Rattle.unit_listing.proofs.FunctionLemmas.{KitLaws}
+use Rattle.link_code.proofs.ReadyLemmas.{ready}
+use Rattle.link_spans.proofs.SpanLemmas.{cover_code, cover_depths}
+use Rattle.link_spans.proofs.laws.lines_cover_instructions.Given as given
+use Rattle.link_spans.proofs.laws.lines_cover_instructions.Goals as goal
+
+-- by the target's laws
+laws : (g : given.Over) → KitLaws (kit_of g.T.Processor.instructions g.T.Processor.fits g.T.Processor.MACHINE g.T.Processor.QUANTUM g.T.Processor.SHAPE g.T.Target.selection
+    g.T.Target.aiming g.T.Target.entry g.T.Target.check g.T.Target.begins)
+laws g =
+    let set = g.T.Processor.instructions in
+    let fits = g.T.Processor.fits in
+    let aiming = g.T.Target.aiming in
+    let shape = g.T.Processor.SHAPE in
+    let machine = g.T.Processor.MACHINE in
+    record {
+      target = record {
+        quantum_kind = quantum_kinds machine g.T.Processor.QUANTUM shape g.T.Processor.GROWTH g.met.T.Processor.architecture;
+        lengths = g.met.T.Processor.lengths;
+        formed = g.met.T.Target.formed;
+        reaches = g.met.T.Target.reaches;
+      };
+      settled = λ frame. settled set shape g.T.Target.begins g.T.Target.selection frame g.met.T.Target.single g.met.T.Target.known;
+      picks = λ frame fine. pick_laws set fits aiming shape g.T.Target.begins g.T.Target.selection machine frame fine
+          g.met.T.Target.pickable g.met.T.Target.few_bytes g.met.T.Target.refers g.met.T.Target.ends;
+      frames = λ frame fine. frame_laws set fits aiming shape g.T.Target.begins g.T.Target.selection machine frame fine g.T.Target.check
+          g.T.Target.entry g.met.T.Target.enters_listed g.met.T.Target.check_pickable g.met.T.Target.stays_around
+          g.met.T.Target.few_instructions;
+    }
+
+pub returns-clause-depths : goal.returns-clause-depths
+returns-clause-depths g c = λ symbols site laid items depths runs of_unit is have covers.
+    let kit = kit_of g.T.Processor.instructions g.T.Processor.fits g.T.Processor.MACHINE g.T.Processor.QUANTUM g.T.Processor.SHAPE g.T.Target.selection
+    g.T.Target.aiming g.T.Target.entry g.T.Target.check g.T.Target.begins in
+    cover_depths kit g.met.T.Target.formed g.met.T.Target.same_lengths site laid (ready kit (laws g) symbols laid of_unit)
+    g.met.T.Processor.lengths c.finer_stretches.ensures items depths runs is have covers
+
+pub returns-clause-values : goal.returns-clause-values
+returns-clause-values g c = λ symbols site laid items value runs of_unit is covers.
+    let kit = kit_of g.T.Processor.instructions g.T.Processor.fits g.T.Processor.MACHINE g.T.Processor.QUANTUM g.T.Processor.SHAPE g.T.Target.selection
+    g.T.Target.aiming g.T.Target.entry g.T.Target.check g.T.Target.begins in
+    cover_code kit g.met.T.Target.formed g.met.T.Target.same_lengths site laid (ready kit (laws g) symbols laid of_unit) value
+    g.met.T.Processor.lengths c.finer_stretches.ensures items is runs covers
