@@ -1,0 +1,4 @@
+pub mod PlaceLemmas
+pub mod AddressLemmas
+mod KeyLemmas
+mod Examples
