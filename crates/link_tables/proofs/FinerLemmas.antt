@@ -1,5 +1,5 @@
 -- What covers stretches covers finer ones.
-use Rattle.std.proofs.Common.{◌≡◌, ◌≢◌, ℕ, zero, suc, ℤ, ◌<◌, ◌≤◌, true, List, [], ◌∷◌, ◌++◌, length, map, All, refl, arith}
+use Rattle.std.proofs.Common.{◌≡◌, ℕ, suc, ℤ, ◌<◌, ◌≤◌, true, List, [], ◌∷◌, ◌++◌, map, refl, arith}
 use Rattle.pcvalue.specs.declared.run.Run.{Run}
 use Rattle.pcvalue.specs.declared.answer.Answer.TheVariants.{Value}
 use Rattle.pcvalue.specs.Table.{value_of}

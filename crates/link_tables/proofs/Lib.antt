@@ -1,2 +1,4 @@
 mod MergedLemmas
 mod FinerLemmas
+mod NameLemmas
+mod PlaceLemmas

@@ -1,14 +1,13 @@
 -- Equal neighbours are one run.
-use Rattle.std.proofs.Common.{◌≡◌, ◌≢◌, ◌⊎◌, inl, inr, ℕ, zero, suc, ℤ, pos, negsuc, ◌-ℤ◌, ◌<ℤ◌, ◌+◌, ◌-◌, ◌%◌, ◌^◌, ◌<◌, ◌≤◌, ◌==◌, nat_lt, IsTrue, Bool, true, false, List, [], ◌∷◌, ◌++◌, length, take, drop, get_or, map, All, refl, sym, ap, subst, ◌∙◌, arith, append_assoc, add-one, length-append}
-use Rattle.std.proofs.lemmas.Bool.{le-ltb, lt-ltb, cases_Bool, cases_lt}
+use Rattle.std.proofs.Common.{◌≡◌, ◌≢◌, ◌⊎◌, inl, inr, ℕ, zero, suc, ℤ, pos, negsuc, ◌-ℤ◌, ◌<ℤ◌, ◌+◌, ◌-◌, ◌%◌, ◌^◌, ◌<◌, ◌≤◌, ◌==◌, IsTrue, true, false, List, [], ◌∷◌, ◌++◌, length, take, drop, get_or, All, refl, sym, ap, ◌∙◌, arith, append_assoc, add-one, length-append}
+use Rattle.std.proofs.lemmas.Bool.{le-ltb, lt-ltb, cases_Bool}
 use Rattle.std.proofs.lemmas.Bool.Decides.{nat_tests}
 use Rattle.std.proofs.lemmas.Int.{ints}
 use Rattle.std.proofs.Math.Seq.{drop-cons}
 use Rattle.std.proofs.lemmas.List.{drop_all, take_all}
 use Rattle.pcvalue.specs.declared.run.Run.{Run}
-use Rattle.pcvalue.specs.declared.answer.Answer.TheVariants.{Value, Past}
+use Rattle.pcvalue.specs.declared.answer.Answer.TheVariants.{Value}
 use Rattle.pcvalue.specs.Runs.{fits_i32}
-use Rattle.pcvalue.specs.Table.{value_of}
 use Rattle.pcvalue.specs.Cover.{Covers, Ascends}
 use Rattle.pcvalue.specs.Writing.{AreRuns, CanStand, CanFollow, no_run}
 use Rattle.link_tables.specs.declared.stretch.Stretch.{Stretch}

@@ -1,5 +1,5 @@
 -- What covers stretches covers finer ones too.
-use Rattle.std.specs.Prelude.{◌≡◌, ◌≢◌, ℕ, ℤ, List, [], ◌∷◌, ◌++◌, map, All}
+use Rattle.std.specs.Prelude.{◌≢◌, ℕ, ℤ, List, [], ◌∷◌, ◌++◌, map, All}
 use Rattle.std.specs.List.{flat_map}
 use Rattle.pcvalue.specs.declared.run.Run.{Run}
 use Rattle.pcvalue.specs.Cover.{Ascends, Covers}

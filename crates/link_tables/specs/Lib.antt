@@ -1,2 +1,4 @@
 pub mod Stretches
 pub mod Finer
+pub mod UsedNames
+pub mod Files
