@@ -4,3 +4,5 @@ pub mod LineLemmas
 pub mod ReadyLemmas
 pub mod DepthLemmas
 pub mod WholeLemmas
+pub mod AstrayLemmas
+pub mod PositionLemmas

@@ -1,18 +1,19 @@
 -- The lines of a function.
-use Rattle.std.proofs.Common.{◌≡◌, ℕ, zero, suc, ◌+◌, ◌-◌, ◌<◌, ◌≤◌, List, [], ◌∷◌, ◌++◌, length, map, Option, Some, None, slice_index, refl, sym, ap, ◌∙◌, subst, arith, add-one}
-use Rattle.std.specs.Prelude.{replicate}
+use Rattle.std.proofs.Common.{◌≡◌, ℕ, zero, suc, ◌+◌, ◌-◌, ◌<◌, ◌≤◌, List, ◌++◌, length, Some, slice_index, refl, sym, ap, ◌∙◌, subst, arith}
 use Rattle.std.specs.List.{slice_get}
+use Rattle.std.specs.Option.{option_map}
 use Rattle.std.proofs.lemmas.Option.{slice_get-map}
 use Rattle.asm_target.specs.declared.body.Line.{Line}
 use Rattle.asm_target.specs.declared.body.Placed.{Placed}
 use Rattle.asm_target.specs.declared.frame.Guard.{Guard}
 use Rattle.asm_target.specs.Aiming.{Aiming, bytes_of}
 use Rattle.asm_target.specs.InstructionSet.{InstructionSet}
-use Rattle.least_forms.specs.Problem.{at, place}
+use Rattle.least_forms.specs.Problem.{at}
 use Rattle.least_forms.proofs.PlaceLemmas.{place_next}
 use Rattle.branch_size.specs.Rows.{problem_of, row_of, rows_of, width_in}
 use Rattle.branch_size.specs.Sizing.{branches_of}
 use Rattle.branch_size.proofs.SizeLemmas.{count_is}
+use Rattle.image_rules.specs.Functions.{placed_from}
 use Rattle.unit_listing.specs.declared.laid.Laid.{Laid}
 use Rattle.unit_listing.specs.Kit.{Kit}
 use Rattle.link_code.specs.declared.site.Site.{Site}
@@ -34,7 +35,7 @@ module _ {Instr : Type 0} (set : InstructionSet Instr) (fits : Instr → Type 0)
   unfolding problem_of
   line_width number form line here most =
       let row : slice_get (rows_of set aiming guard code) number ≡ Some (row_of set aiming guard code line) =
-      slice_get-map (row_of set aiming guard code) code number ∙ ap (Rattle.std.specs.Option.option_map (row_of set aiming guard code)) here in
+      slice_get-map (row_of set aiming guard code) code number ∙ ap (option_map (row_of set aiming guard code)) here in
       ap (λ found. width_in found form) row ∙ by_form line form most
 
 module _ {Instr : Type 0} (kit : Kit Instr) (site : Site) (laid : Laid Instr) (ready : IsReady kit laid) where
@@ -76,7 +77,7 @@ module _ {Instr : Type 0} (kit : Kit Instr) (site : Site) (laid : Laid Instr) (r
         };
         fit = added.fit;
         long = ends ∙ added.long ∙ ap (λ n. n + bytes_of kit.set added.code) begins;
-        behind = added.behind ∙ ap (λ n. before ++ Rattle.image_rules.specs.Functions.placed_from kit.set n added.code) begins;
+        behind = added.behind ∙ ap (λ n. before ++ placed_from kit.set n added.code) begins;
       }
 
   -- a line that can't hold what it refers to

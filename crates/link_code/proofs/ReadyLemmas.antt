@@ -1,10 +1,9 @@
 -- A function of a unit that is laid out is ready to be placed.
-use Rattle.std.proofs.Common.{◌≡◌, ℕ, ◌+◌, ◌-◌, ◌<◌, ◌≤◌, ◌++◌, Bool, true, false, not, List, [], ◌∷◌, length, map, refl, sym, ap, ◌∙◌, subst, arith, length-append, if◌then◌else◌}
+use Rattle.std.proofs.Common.{◌≡◌, ℕ, ◌+◌, ◌-◌, ◌<◌, Bool, true, false, not, List, [], ◌∷◌, length, refl, sym, ap, ◌∙◌, subst, arith, length-append, if◌then◌else◌}
 use Rattle.std.specs.List.{slice_get}
 use Rattle.goasm_base.specs.declared.statement.Function.{Function}
 use Rattle.goasm_base.specs.declared.statement.Stmt.{Stmt}
 use Rattle.goasm_base.specs.Statements.{IsValidFunction}
-use Rattle.asm_target.specs.declared.body.Line.{Line}
 use Rattle.asm_target.specs.declared.frame.FrameShape.{FrameShape}
 use Rattle.asm_target.specs.declared.refer.Picked.{Picked}
 use Rattle.asm_target.specs.Frames.{IsFrame}
@@ -12,7 +11,7 @@ use Rattle.asm_target.specs.Goals.{IsBody}
 use Rattle.asm_target.specs.References.{IsEnd}
 use Rattle.branch_size.specs.Sizing.{IsSized, branches_of}
 use Rattle.obj_rewrite.specs.Rewriting.{Code, Rewrites, Rules}
-use Rattle.obj_rewrite.specs.Rewritten.{AreLines, IsWritten, appended, self_jump}
+use Rattle.obj_rewrite.specs.Rewritten.{IsWritten, self_jump}
 use Rattle.obj_rewrite.specs.Words.{is_end, is_goal, runs_on}
 use Rattle.obj_rewrite.proofs.BodyLemmas.{is_body}
 use Rattle.obj_rewrite.proofs.LineLemmas.{rewrites_last}

@@ -1,6 +1,6 @@
 -- All lines of a function.
-use Rattle.std.proofs.Common.{◌≡◌, ℕ, zero, suc, ◌+◌, ◌<◌, ◌≤◌, List, [], ◌∷◌, ◌++◌, length, get_or, Option, Some, slice_index, refl, sym, ap, ◌∙◌, subst, arith, length-append}
-use Rattle.std.specs.Prelude.{All, replicate}
+use Rattle.std.proofs.Common.{◌≡◌, ℕ, zero, suc, ◌+◌, ◌<◌, ◌≤◌, List, [], ◌∷◌, length, Option, Some, slice_index, sym, ap, ◌∙◌, subst, arith, length-append}
+use Rattle.std.specs.Prelude.{All}
 use Rattle.std.specs.List.{slice_get}
 use Rattle.std.proofs.lemmas.List.{length-replicate}
 use Rattle.std.proofs.lemmas.Option.{slice_get_within, get_or_from_slice_get}
@@ -8,11 +8,10 @@ use Rattle.asm_target.specs.declared.body.Line.{Line}
 use Rattle.asm_target.specs.declared.body.Placed.{Placed}
 use Rattle.asm_target.specs.declared.refer.Refer.{Refer}
 use Rattle.asm_target.specs.declared.refer.To.{To}
-use Rattle.asm_target.specs.Aiming.{HasForms, HaveForms, bytes_of}
+use Rattle.asm_target.specs.Aiming.{HaveForms}
 use Rattle.least_forms.specs.Problem.{at, place}
 use Rattle.least_forms.proofs.PlaceLemmas.{place_first}
 use Rattle.branch_size.proofs.SizeLemmas.{count_is}
-use Rattle.image_rules.specs.Functions.{placed_from}
 use Rattle.unit_listing.specs.declared.laid.Laid.{Laid}
 use Rattle.unit_listing.specs.Joined.{AreJoined}
 use Rattle.unit_listing.specs.Kit.{Kit}
@@ -50,7 +49,7 @@ module _ {Instr : Type 0} (kit : Kit Instr) where
   form_some formed i (suc (suc form)) fit most = absurd (omega arith)
 
   module _ (site : Site) (laid : Laid Instr) where
-    line_long : (number : ℕ) (code : List Instr) (is : IsLine kit site laid number code) → length code ≡ length (form_in kit laid number is.line)
+    pub line_long : (number : ℕ) (code : List Instr) (is : IsLine kit site laid number code) → length code ≡ length (form_in kit laid number is.line)
     line_long number code is =
         parts_long _ is.line.refer _ _ (form_in kit laid number is.line) (length (form_in kit laid number is.line)) code is.parts
 

@@ -1,4 +1,4 @@
-use Rattle.std.proofs.Common.{◌≡◌, ℕ, Option, Some, length, refl, ap, sym, ◌∙◌, rules, FitsSigned, w64}
+use Rattle.std.proofs.Common.{◌≡◌, ℕ, Some, length, refl, ap, sym, ◌∙◌, rules, FitsSigned, w64}
 use Rattle.std.proofs.lemmas.Int.{to_z-of_z}
 use Rattle.machine_effect.specs.Numbers.{moved_by}
 use Rattle.std.specs.Option.{option_map}

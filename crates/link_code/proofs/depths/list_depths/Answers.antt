@@ -1,4 +1,4 @@
-use Rattle.std.proofs.Common.{◌≡◌, ℕ, [], length, ap, ◌∙◌, arith}
+use Rattle.std.proofs.Common.{◌≡◌, [], length, ap, arith}
 use Rattle.unit_listing.specs.Kit.{kit_of}
 use Rattle.unit_listing.proofs.JoinedLemmas.{one_more}
 use Rattle.link_code.specs.Code.{HasDepth}

@@ -1,6 +1,5 @@
-use Rattle.std.proofs.Common.{◌≡◌, ℕ, List, ◌++◌, length, refl, ap, ◌∙◌}
+use Rattle.std.proofs.Common.{◌≡◌, ℕ, length, ap, ◌∙◌}
 use Rattle.std.specs.Prelude.{replicate}
-use Rattle.asm_target.specs.Aiming.{Aiming}
 use Rattle.unit_listing.specs.Kit.{kit_of}
 use Rattle.unit_listing.proofs.JoinedLemmas.{on_ok}
 use Rattle.link_code.specs.Code.{form_in}

@@ -1,4 +1,4 @@
-use Rattle.std.proofs.Common.{◌≡◌, ℕ, ◌+◌, [], Err, length, ap, sym, ◌∙◌, arith}
+use Rattle.std.proofs.Common.{◌≡◌, ◌+◌, [], Err, length, ap, sym, arith}
 use Rattle.unit_listing.specs.Kit.{kit_of}
 use Rattle.link_code.specs.declared.place_no.PlaceNo.TheVariants.{Unreached}
 use Rattle.link_code.specs.Code.{IsLine, begins_at}

@@ -1,6 +1,5 @@
-use Rattle.std.proofs.Common.{◌≡◌, ℕ, ◌+◌, ◌*◌, ◌≤◌, ◌==◌, Option, None, length, take, refl, sym, ap, ◌∙◌, subst, arith, if◌then◌else◌}
+use Rattle.std.proofs.Common.{◌≡◌, ℕ, ◌+◌, ◌==◌, None, length, refl, sym, ap, ◌∙◌, subst, arith, if◌then◌else◌}
 use Rattle.std.proofs.lemmas.List.{take_all}
-use Rattle.asm_target.specs.declared.refer.Refer.{Refer}
 use Rattle.asm_target.specs.Aiming.{bytes_of}
 use Rattle.unit_listing.specs.Joined.{AreJoined}
 use Rattle.unit_listing.specs.Kit.{kit_of}

@@ -1,8 +1,6 @@
-use Rattle.std.proofs.Common.{◌≡◌, ℕ, ◌+◌, slice_index, ap, ◌∙◌}
+use Rattle.std.proofs.Common.{ℕ, ◌+◌, slice_index, ap, ◌∙◌}
 use Rattle.unit_listing.specs.Kit.{kit_of}
 use Rattle.unit_listing.proofs.JoinedLemmas.{on_ok}
-use Rattle.link_code.specs.Code.{form_in}
-use Rattle.link_code.specs.Goals.{line_address}
 use Rattle.link_code.proofs.LineLemmas.{line_added, line_far}
 use Rattle.link_code.proofs.placing.push_line.Goals as goal
 
