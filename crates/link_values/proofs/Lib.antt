@@ -1,0 +1,4 @@
+pub mod EachLemmas
+pub mod WrittenLemmas
+pub mod PlacedLemmas
+pub mod ValueLemmas
