@@ -1,0 +1,9 @@
+use Rattle.unit_listing.specs.Kit.{kit_of}
+use Rattle.link_functions.proofs.PartLemmas.{HasUnits}
+use Rattle.link_functions.proofs.laying.lay_all.Given as goal
+
+abbrev pub invariant-loop-number : goal.invariant-loop-number
+invariant-loop-number g l =
+    let kit = kit_of g.T.Processor.instructions g.T.Processor.fits g.T.Processor.MACHINE g.T.Processor.QUANTUM g.T.Processor.SHAPE g.T.Target.selection
+    g.T.Target.aiming g.T.Target.entry g.T.Target.check g.T.Target.begins in
+    HasUnits kit l.names l.units l.number l.code.items

@@ -1,0 +1,9 @@
+//! The functions of a build that count, with their instructions; and whether each symbol stands for something to which they or its
+//! data refer.
+#![tactic(auto)]
+
+mod code;
+mod laying;
+
+pub use code::{Part, UnitCode};
+pub use laying::lay_all;
