@@ -17,7 +17,7 @@ use Rattle.asm_target.specs.FlowRules.{IsFlowSound}
 use Rattle.elf_image.specs.declared.parts.ImageParts.{ImageParts}
 use Rattle.elf_image.specs.Contents.{outside_of, table_in, text_address}
 use Rattle.flow_rules.specs.Placing.{function_of, is_listed}
-use Rattle.image_rules.specs.Functions.{HasTables, ends_from, placed_from}
+use Rattle.image_rules.specs.Functions.{ends_from, HasTables, NamesFile, placed_from}
 use Rattle.image_rules.specs.Machine.{Machine}
 use Rattle.image_rules.specs.Parts.{count_in, entry_in, is_outside_symbol, offset_in}
 use Rattle.image_rules.specs.Sound.{direct_goal, is_lost, is_unknown}
@@ -31,12 +31,15 @@ use Rattle.link_laws.specs.Made.{IsMadeOf, IsWellMade, bytes_of}
 use Rattle.link_spans.specs.Spans.{CoverCode, CoverLines, IsOfLine}
 use Rattle.pclntab.specs.declared.parts.FuncPart.{FuncPart}
 use Rattle.pclntab.specs.declared.parts.TableParts.{TableParts}
-use Rattle.pclntab.specs.Func.{entry_of, numbered_from}
+use Rattle.pclntab.specs.Func.{DepthsOver, entry_of, FilesOver, LinesOver, numbered_from}
 use Rattle.pclntab.specs.Parts.{TellsStretches}
-use Rattle.pclntab.specs.Places.{unit_field}
+use Rattle.pclntab.specs.Places.{entry_offset, func_count, quantum, text_start, unit_field}
 use Rattle.pclntab.specs.Words.{u32_at}
 use Rattle.unit_listing.specs.declared.laid.Laid.{Laid}
 use Rattle.unit_listing.specs.Kit.{Kit}
+use Rattle.std.specs.Option.{option_map}
+use Rattle.asm_target.proofs.PlaceLemmas.{item_at}
+use Rattle.pclntab.specs.Table.{IsTable}
 
 -- what the law on lines and instructions says of a target
 pub record CoversCode {Instr : Type 0} (kit : Kit Instr) : Type 0 where
@@ -78,7 +81,7 @@ module _ {Instr : Type 0} (kit : Kit Instr) (growth : Option ℕ) (covers : Cove
     parts_long = ap length is.funcs ∙ length-map all (λ one. one.part)
 
     count : count_in bytes ≡ length all
-    count = ap Rattle.pclntab.specs.Places.func_count is.image_told.table ∙ is.table_told.count ∙ parts_long
+    count = ap func_count is.image_told.table ∙ is.table_told.count ∙ parts_long
 
     -- the table is given the part of a function
     part_there : (index : ℕ) (one : Assembled Instr) (d : FuncPart) → slice_get all index ≡ Some one
@@ -86,19 +89,19 @@ module _ {Instr : Type 0} (kit : Kit Instr) (growth : Option ℕ) (covers : Cove
     part_there index one d here =
         ap (λ funcs. slice_index_or funcs index d) is.funcs
         ∙ get_or_from_slice_get (map (λ one. one.part) all) index one.part d
-        (slice_get-map (λ one. one.part) all index ∙ ap (Rattle.std.specs.Option.option_map (λ one. one.part)) here)
+        (slice_get-map (λ one. one.part) all index ∙ ap (option_map (λ one. one.part)) here)
 
     inside : (index : ℕ) (one : Assembled Instr) → slice_get all index ≡ Some one → index < length table.funcs
     inside index one here = (let within = slice_get_within all index one here in let long = parts_long in omega arith)
 
     offset_there : (index : ℕ) (one : Assembled Instr) → slice_get all index ≡ Some one → offset_in bytes index ≡ one.part.entry
     offset_there index one here =
-        ap (λ table. Rattle.pclntab.specs.Places.entry_offset table index) is.image_told.table
+        ap (λ table. entry_offset table index) is.image_told.table
         ∙ is.table_all.entries index one.part (inside index one here)
         ∙ ap (λ part. part.entry) (part_there index one one.part here)
 
-    start : Rattle.pclntab.specs.Places.text_start (table_in bytes) ≡ text_address
-    start = ap Rattle.pclntab.specs.Places.text_start is.image_told.table ∙ is.table_told.start ∙ is.start
+    start : text_start (table_in bytes) ≡ text_address
+    start = ap text_start is.image_told.table ∙ is.table_told.start ∙ is.start
 
     entry_there : (index : ℕ) (one : Assembled Instr) → slice_get all index ≡ Some one → entry_in bytes index ≡ one.site.entry
     entry_there index one here =
@@ -111,7 +114,7 @@ module _ {Instr : Type 0} (kit : Kit Instr) (growth : Option ℕ) (covers : Cove
     entries index most =
         elim (cases_lt index (length all)) as (λ _. offset_in bytes index ≡ length (bytes_of machine (take index (map made_of all)))) [
           | inl less ↦
-              (let there = Rattle.asm_target.proofs.PlaceLemmas.item_at all index less in
+              (let there = item_at all index less in
               offset_there index there.0 there.1 ∙ is.entries index there.0 there.1
               ∙ ap (λ made. length (bytes_of machine made)) (sym (take-map made_of index all)))
           | inr last ↦
@@ -120,7 +123,7 @@ module _ {Instr : Type 0} (kit : Kit Instr) (growth : Option ℕ) (covers : Cove
               let whole : take index (map made_of all) ≡ map made_of all
               = ap (λ n. take n (map made_of all)) (same ∙ sym (length-map all made_of)) ∙ take-length (map made_of all) in
               ap (λ n. offset_in bytes n) (same ∙ sym long)
-              ∙ ap (λ table'. Rattle.pclntab.specs.Places.entry_offset table' (length table.funcs)) is.image_told.table
+              ∙ ap (λ table'. entry_offset table' (length table.funcs)) is.image_told.table
               ∙ is.table_all.last ∙ is.long ∙ ap length is.text ∙ ap (λ made. length (bytes_of machine made)) (sym whole))
         ]
 
@@ -134,10 +137,10 @@ module _ {Instr : Type 0} (kit : Kit Instr) (growth : Option ℕ) (covers : Cove
 
     all_named : (index : ℕ) (one : Assembled Instr) (here : slice_get all index ≡ Some one) (numbers : List ℕ)
         → All (λ number. number < length table.files) numbers
-        → All (Rattle.image_rules.specs.Functions.NamesFile machine bytes index) (map pos numbers)
-    all_named index one here [] less = All-nil (Rattle.image_rules.specs.Functions.NamesFile machine bytes index)
+        → All (NamesFile machine bytes index) (map pos numbers)
+    all_named index one here [] less = All-nil (NamesFile machine bytes index)
     all_named index one here (number ∷ numbers) less =
-        All-cons (Rattle.image_rules.specs.Functions.NamesFile machine bytes index) (pos number) (map pos numbers)
+        All-cons (NamesFile machine bytes index) (pos number) (map pos numbers)
         (named index one here number (All-head (λ (n : ℕ). n < length table.files) number numbers less))
         (all_named index one here numbers (All-tail (λ (n : ℕ). n < length table.files) number numbers less))
 
@@ -164,14 +167,14 @@ module _ {Instr : Type 0} (kit : Kit Instr) (growth : Option ℕ) (covers : Cove
         let file = covers.values one.symbols one.site one.laid one.placed (λ line. well.told.index line.pos.file) one.part.file well.of_unit well.code
         well.told.file in
         record {
-          depth = subst (λ table. Rattle.pclntab.specs.Func.DepthsOver table index ends (map pos one.depths)) (sym same)
+          depth = subst (λ table. DepthsOver table index ends (map pos one.depths)) (sym same)
               (told.depths ends (map pos one.depths)
               (covers.depths one.symbols one.site one.laid one.placed one.depths one.part.depth well.of_unit well.code well.depths well.told.depth));
           lines = line.values;
-          line = subst (λ table. Rattle.pclntab.specs.Func.LinesOver table index ends (map pos line.values)) (sym same)
+          line = subst (λ table. LinesOver table index ends (map pos line.values)) (sym same)
               (told.lines ends (map pos line.values) line.covers);
           files = map pos file.values;
-          file = subst (λ table. Rattle.pclntab.specs.Func.FilesOver table index ends (map pos file.values)) (sym same)
+          file = subst (λ table. FilesOver table index ends (map pos file.values)) (sym same)
               (told.files ends (map pos file.values) file.covers);
           named = all_named index one here file.values
               (below one.laid (λ line. well.told.index line.pos.file) (length table.files) file.values well.told.known file.among);
@@ -226,9 +229,9 @@ module _ {Instr : Type 0} (kit : Kit Instr) (growth : Option ℕ) (covers : Cove
     pub is_made : IsMadeOf machine bytes (map made_of all)
     is_made = record {
       image = is.image_form;
-      table = subst Rattle.pclntab.specs.Table.IsTable (sym is.image_told.table) is.table_form;
+      table = subst IsTable (sym is.image_told.table) is.table_form;
       number = is.image_told.machine ∙ is.number;
-      quanta = ap Rattle.pclntab.specs.Places.quantum is.image_told.table ∙ is.table_all.unit ∙ is.unit;
+      quanta = ap quantum is.image_told.table ∙ is.table_all.unit ∙ is.unit;
       start = start;
       some = rw (length-map all made_of) is.some;
       count = count ∙ sym (length-map all made_of);
