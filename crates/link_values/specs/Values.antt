@@ -5,7 +5,7 @@ use Rattle.asm_parse.specs.declared.unit.Unit.{Unit as Said}
 use Rattle.asm_parse.specs.declared.unit.Symbol.{Symbol}
 use Rattle.asm_parse.specs.declared.unit.DataPart.{DataPart}
 use Rattle.link_names.specs.declared.definition.Meaning.{Meaning}
-use Rattle.link_names.specs.Definitions.{Entry, each, key_at, meaning_in}
+use Rattle.link_names.specs.Definitions.{Entry, MeansAs, each, entries_of, key_at, meaning_in}
 use Rattle.link_places.specs.Places.{places_from, end_from}
 use Rattle.link_places.specs.Addresses.{address_in}
 use Rattle.link_values.specs.Kept.{kept_values, sizes_of, placed}
@@ -57,3 +57,7 @@ module _ (names : List Entry) (units : List Said) where
 
   abbrev pub value_bytes : List (Meaning × ℕ) → List ℕ
   value_bytes addresses = written_over (replicate values_end 0) (value_writes addresses)
+
+-- these are the names of a build with these units and some outside names
+abbrev pub AreNamesOf : List Entry → List Said → Type 0
+AreNamesOf names units = (outside : List (List ℕ × ℕ)) × MeansAs names (entries_of units outside)

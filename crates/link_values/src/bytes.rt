@@ -1,5 +1,6 @@
-ghost use Rattle.std.specs.Prelude.{◌≡◌, ℕ, ◌^◌, ◌<◌, ◌≤◌, All, length, slice_index, unwrap_or, IfOk};
+ghost use Rattle.std.specs.Prelude.{◌≡◌, ℕ, [], ◌^◌, ◌<◌, ◌≤◌, All, length, slice_index, unwrap_or, IfOk};
 ghost use Rattle.asm_parse.specs.Valid.{IsValidUnit};
+ghost use Rattle.link_names.specs.Data.{misplaced};
 ghost use Rattle.link_places.specs.Addresses.{TellsAs};
 ghost use Rattle.link_places.specs.Places.{places_from, end_from};
 ghost use Rattle.link_values.specs.Kept.{kept_values, sizes_of, placed};
@@ -14,7 +15,11 @@ use link_names::{Meaning, Names};
 use link_places::{Addresses, Places};
 use std::alloc::Global;
 
-/// The bytes of a build's data: zeros, over which its `DATA` statements write, by units and in their order.
+/// The bytes of a build's data, whose `DATA` statements all have room: zeros, over which each of them writes, by units and in their
+/// order. Where several write a byte, the last one's stands.
+///
+/// A `DATA` writes into what its symbol stands for, also where another unit declares that. The address of a symbol is eight bytes, the
+/// lowest first: the one that is told of what the symbol stands for, or 0 where none is, and the offset, modulo 2^64.
 ///
 /// `Memory` comes only for want of memory.
 pub fn value_bytes(
@@ -30,7 +35,8 @@ pub fn value_bytes(
     requires placed { places.now.at ≡ places_from 0 (sizes_of kept.now) }
     requires ended { places.now.end ≡ end_from 0 (sizes_of kept.now) }
     requires small { places.now.end ≤ 2 ^ 24 }
-    requires inside { All (IsInside (spec.values_end names.now units.now)) (spec.value_writes names.now units.now addresses.now) }
+    requires named { spec.AreNamesOf names.now units.now }
+    requires room { misplaced units.now names.now ≡ [] }
     ensures written { IfOk result (λ bytes. bytes.items ≡ spec.value_bytes names.now units.now addresses.now) }
     ensures length { IfOk result (λ bytes. length bytes.items ≡ spec.values_end names.now units.now) }
     ensures byte { IfOk result (λ bytes. (place : ℕ) → place < spec.values_end names.now units.now
