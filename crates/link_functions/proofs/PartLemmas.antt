@@ -5,6 +5,7 @@ use Rattle.std.specs.List.{AllZip}
 use Rattle.std.proofs.lemmas.List.Elements.{All-append, All-cons, All-nil, All-push}
 use Rattle.goasm_base.specs.declared.statement.Function.{Function}
 use Rattle.asm_parse.specs.declared.unit.Unit.{Unit as Said}
+use Rattle.asm_parse.specs.Valid.{IsValidUnit}
 use Rattle.link_names.specs.Definitions.{Entry, each}
 use Rattle.unit_listing.specs.declared.listing_no.ListingNo.{ListingNo}
 use Rattle.unit_listing.specs.Kit.{Kit}
@@ -12,7 +13,7 @@ use Rattle.unit_listing.specs.Listing.{IsRefused}
 use Rattle.link_functions.specs.declared.code.Part.{Part}
 use Rattle.link_functions.specs.declared.code.UnitCode.{UnitCode}
 use Rattle.link_functions.specs.Kept.{kept_in, kept_of}
-use Rattle.link_functions.specs.Code.{Adds, AddsUnit, AreParts, HasCode, HasParts, IsFirstUnlaid, IsPart, IsPartWithin, IsUnitLaid, IsUnitWithin}
+use Rattle.link_functions.specs.Code.{Adds, AddsUnit, AreParts, HasCode, HasParts, IsFirstUnlaid, IsPart, IsPartWithin, IsUnitLaid, IsUnitWithin, IsValidCode}
 use Rattle.link_functions.proofs.EachLemmas.{each_more, each_none, each_split, rest}
 
 zip_append : {A B : Type 0} (R : A → B → Type 0) (xs ys : List A) (us vs : List B) → AllZip R xs us → AllZip R ys vs
@@ -94,19 +95,21 @@ module _ {Instr : Type 0} (kit : Kit Instr) where
     -- the code is that of the units below a number
     pub record HasUnits (number : ℕ) (code : List (UnitCode Instr)) : Type 0 where
       pub laid : AllZip (IsUnitLaid kit names) (each pair (take number units)) code
+      pub valid : All IsValidCode code
       pub within : All IsUnitWithin code
       pub has : All (HasCode kit) (each (kept_in names) (take number units))
 
     pub no_units : HasUnits 0 []
     no_units = record {
       laid = subst (λ pairs. AllZip (IsUnitLaid kit names) pairs []) (sym (each_none pair)) tt;
+      valid = All-nil IsValidCode;
       within = All-nil IsUnitWithin;
       has = subst (All (HasCode kit)) (sym (each_none (kept_in names))) (All-nil (HasCode kit));
     }
 
-    pub units_more : (number : ℕ) (unit : Said) (old new : List (UnitCode Instr)) → slice_get units number ≡ Some unit
+    pub units_more : (number : ℕ) (unit : Said) (old new : List (UnitCode Instr)) → slice_get units number ≡ Some unit → IsValidUnit unit
         → HasUnits number old → AddsUnit kit names number unit old new → HasUnits (number + 1) new
-    units_more number unit old new here has adds =
+    units_more number unit old new here valid has adds =
         let Laid : ℕ × Said → UnitCode Instr → Type 0 = IsUnitLaid kit names in
         let one : Laid (number, unit) adds.code = record { unit_is = adds.unit_is; parts = adds.has.parts_are } in
         let within : IsUnitWithin adds.code =
@@ -114,6 +117,7 @@ module _ {Instr : Type 0} (kit : Kit Instr) where
         subst (HasUnits (number + 1)) (sym adds.whole) (record {
           laid = subst (λ pairs. AllZip Laid pairs (old ++ adds.code ∷ [])) (sym (each_more pair units number unit here))
               (zip_append Laid (each pair (take number units)) (pair number unit) old (adds.code ∷ []) has.laid (one, tt));
+          valid = All-push IsValidCode old adds.code has.valid (subst IsValidUnit (sym adds.unit_is) valid);
           within = All-push IsUnitWithin old adds.code has.within within;
           has = subst (All (HasCode kit)) (sym (each_more (kept_in names) units number unit here))
               (All-append (HasCode kit) (each (kept_in names) (take number units)) (kept_in names number unit) has.has

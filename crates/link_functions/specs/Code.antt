@@ -6,6 +6,7 @@ use Rattle.asm_target.specs.declared.body.Line.{Line}
 use Rattle.asm_target.specs.declared.refer.To.{To}
 use Rattle.asm_target.specs.declared.refer.To.TheVariants as to
 use Rattle.asm_parse.specs.declared.unit.Unit.{Unit as Said}
+use Rattle.asm_parse.specs.Valid.{IsValidUnit}
 use Rattle.link_names.specs.Definitions.{Entry, numbered}
 use Rattle.unit_listing.specs.declared.laid.Laid.{Laid}
 use Rattle.unit_listing.specs.declared.listing_no.ListingNo.{ListingNo}
@@ -31,6 +32,10 @@ module _ {Instr : Type 0} where
 
   abbrev pub IsPartWithin : ℕ → Part Instr → Type 0
   IsPartWithin symbols part = AreWithin symbols part.laid
+
+  -- the unit is one on which calls can rely
+  abbrev pub IsValidCode : UnitCode Instr → Type 0
+  IsValidCode code = IsValidUnit code.unit.now
 
   -- each symbol to which the functions of a unit refer is one of its own
   abbrev pub IsUnitWithin : UnitCode Instr → Type 0

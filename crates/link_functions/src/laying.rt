@@ -28,6 +28,7 @@ pub fn lay_all<'a, T: Target>(
     requires valid { All IsValidUnit units.now }
     ensures laid { let kit = kit_of T.instructions T.fits T.MACHINE T.QUANTUM T.SHAPE T.selection T.aiming T.entry T.check T.begins in
         IfOk result (λ code. spec.AreLaid kit names.now units.now code.items) }
+    ensures valid { IfOk result (λ code. All spec.IsValidCode code.items) }
     ensures within { IfOk result (λ code. All spec.IsUnitWithin code.items) }
     ensures refused { let kit = kit_of T.instructions T.fits T.MACHINE T.QUANTUM T.SHAPE T.selection T.aiming T.entry T.check T.begins in
         (no : ListingNo) → result ≡ Err no → no ≢ numbers.Memory → spec.IsFirstUnlaid kit (kept.kept_of names.now units.now) no }

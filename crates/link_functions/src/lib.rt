@@ -4,6 +4,8 @@
 
 mod code;
 mod laying;
+mod references;
 
 pub use code::{Part, UnitCode};
 pub use laying::lay_all;
+pub use references::judge_references;

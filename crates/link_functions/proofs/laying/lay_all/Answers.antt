@@ -20,8 +20,9 @@ loop-number-preserved g c =
     let number = c.loop-number.number in
     let unit = c.index-units-number.result in
     let here = slice_get_read units _ number unit refl (omega arith) c.index-units-number.is in
-    units_more kit c.args.names.now units number unit c.loop-number.code.items c.push_unit.new.code.items here c.loop-number.invariant
-    c.in_ok-push_unit.ensures.laid
+    let valid = subst IsValidUnit (sym c.index-units-number.is) (All-get_or IsValidUnit units number unit (omega arith) c.requires.valid) in
+    units_more kit c.args.names.now units number unit c.loop-number.code.items c.push_unit.new.code.items here valid
+    c.loop-number.invariant c.in_ok-push_unit.ensures.laid
 
 pub returns-in_err-push_unit-clause-refused : goal.returns-in_err-push_unit-clause-refused
 returns-in_err-push_unit-clause-refused g c = λ no same real.
