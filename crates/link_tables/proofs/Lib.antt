@@ -2,3 +2,8 @@ mod MergedLemmas
 mod FinerLemmas
 mod NameLemmas
 mod PlaceLemmas
+mod RowLemmas
+mod NumberingLemmas
+mod UsedLemmas
+mod TellLemmas
+mod ReadyLemmas

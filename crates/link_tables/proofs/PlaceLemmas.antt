@@ -55,7 +55,7 @@ place_with_self names name =
       | inr absent ↦ rw absent (place_self names name)
     ]
 
-with_longer : (names : List (List ℕ)) (name : List ℕ) → (length names ≤ length (with_name names name)) × (length (with_name names name) ≤ length names + 1)
+pub with_longer : (names : List (List ℕ)) (name : List ℕ) → (length names ≤ length (with_name names name)) × (length (with_name names name) ≤ length names + 1)
 with_longer names name =
     elim (cases_Bool (has_name names name)) [
       | inl there ↦ rw there (omega arith, omega arith)

@@ -2,3 +2,5 @@ pub mod Stretches
 pub mod Finer
 pub mod UsedNames
 pub mod Files
+pub mod Rows
+pub mod Table

@@ -61,8 +61,10 @@ impl<'a> Files<'a> {
     }
 
     /// The names that were used.
+    #[tactic(auto, using(crate::proofs::PlaceLemmas::few_used))]
     pub fn names(&self, alloc: Global) -> Result<List<Name>, Memory>
-        ensures { IfOk result (λ names. names ≡ self.now.used) }
+        ensures names { IfOk result (λ names. names ≡ self.now.used) }
+        ensures few { length self.now.used ≤ length self.now.build }
     {
         self.used.list(alloc)
     }

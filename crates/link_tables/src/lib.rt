@@ -3,12 +3,20 @@
 #![tactic(auto)]
 
 mod files;
+mod func_lines;
 mod laws;
+mod numbering;
+mod parts;
+mod row;
+mod rows;
 mod runs;
 mod stretch;
+mod stretches;
 mod used_names;
 
 pub use files::Files;
+pub use func_lines::FuncLines;
 pub use laws::finer_stretches;
+pub use parts::table_parts;
 pub use runs::runs_of;
 pub use stretch::Stretch;

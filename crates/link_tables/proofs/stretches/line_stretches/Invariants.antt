@@ -1,0 +1,6 @@
+use Rattle.std.proofs.Common.{◌≡◌, map, take}
+use Rattle.link_tables.specs.Rows.{line_stretch}
+use Rattle.link_tables.proofs.stretches.line_stretches.Given as goal
+
+abbrev pub invariant-loop-row : goal.invariant-loop-row
+invariant-loop-row l = l.stretches.items ≡ map line_stretch (take l.row-index l.rows)
