@@ -1,7 +1,9 @@
-//! Tests of the crates that link a build, a module for each, on sources.
+//! Tests of the crates that link a build, a module for each: the names on sources, the symbols on an image of vectors/elf.
 #![tactic(auto)]
 
 #[cfg(test)]
 mod code_tests;
 #[cfg(test)]
 mod names_tests;
+#[cfg(test)]
+mod symbols_tests;
