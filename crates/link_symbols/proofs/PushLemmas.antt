@@ -1,12 +1,12 @@
 -- Symbols that are added one by one.
-use Rattle.std.proofs.Common.{◌≡◌, ℕ, ◌+◌, ◌<◌, Bool, true, false, cond, List, [], ◌∷◌, ◌++◌, length, get_or, take, map, filter, refl, sym, ◌∙◌, ap, append_assoc, append-nil}
+use Rattle.std.proofs.Common.{◌≡◌, ℕ, ◌+◌, ◌<◌, Bool, true, false, List, [], ◌∷◌, ◌++◌, length, get_or, take, map, filter, refl, sym, ◌∙◌, ap, append_assoc, append-nil}
 use Rattle.std.specs.Prelude.{All}
 use Rattle.std.proofs.lemmas.List.{map-append}
 use Rattle.std.proofs.lemmas.List.Elements.{All-push, filter_more}
 use Rattle.elf_image.specs.declared.parts.SymbolPart.{SymbolPart}
 use Rattle.elf_image.specs.Parts.{IsPart}
 use Rattle.link_symbols.specs.declared.defined.Defined.{Defined}
-use Rattle.link_symbols.specs.Table.{is_among, symbol_of, outside_symbol}
+use Rattle.link_symbols.specs.Table.{is_among, symbol_of}
 
 abbrev pub defined_symbols : ℕ → Bool → List Defined → List SymbolPart
 defined_symbols kind local defined = map (symbol_of kind) (filter (is_among local) defined)

@@ -1,4 +1,4 @@
-use Rattle.std.proofs.Common.{◌≡◌, ◌+◌, ◌++◌, ◌∷◌, [], take, ◌∙◌, ap, sym, rules}
+use Rattle.std.proofs.Common.{◌≡◌, ◌+◌, ◌++◌, ◌∷◌, [], take, ◌∙◌, ap, sym}
 use Rattle.link_symbols.proofs.PushLemmas.{defined_symbols, pushed_more, pushed_same, defined_added, defined_left}
 use Rattle.link_symbols.proofs.table.push_defined.Goals as goal
 use Rattle.link_symbols.proofs.table.push_defined.Goals.{then-is_among+in_ok-symbol+in_ok-push, else-is_among}
