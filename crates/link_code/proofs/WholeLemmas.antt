@@ -1,13 +1,11 @@
 -- All lines of a function.
 use Rattle.std.proofs.Common.{◌≡◌, ℕ, zero, suc, ◌+◌, ◌<◌, ◌≤◌, List, [], ◌∷◌, length, Option, Some, slice_index, sym, ap, ◌∙◌, subst, arith, length-append}
-use Rattle.std.specs.Prelude.{All}
-use Rattle.std.specs.List.{slice_get}
 use Rattle.std.proofs.lemmas.List.{length-replicate}
-use Rattle.std.proofs.lemmas.Option.{slice_get_within, get_or_from_slice_get}
 use Rattle.asm_target.specs.declared.body.Line.{Line}
 use Rattle.asm_target.specs.declared.body.Placed.{Placed}
 use Rattle.asm_target.specs.declared.refer.Refer.{Refer}
 use Rattle.asm_target.specs.declared.refer.To.{To}
+use Rattle.asm_target.proofs.PlaceLemmas.{fit_at}
 use Rattle.asm_target.specs.Aiming.{HaveForms}
 use Rattle.least_forms.specs.Problem.{at, place}
 use Rattle.least_forms.proofs.PlaceLemmas.{place_first}
@@ -19,9 +17,6 @@ use Rattle.link_code.specs.declared.site.Site.{Site}
 use Rattle.link_code.specs.Code.{HasDepth, HaveDepths, IsCode, IsLine, IsPart, IsReady, IsTooFar, IsUnreached, begins_at, form_in, lines_in}
 use Rattle.link_code.specs.Placed.{AreAdded}
 use Rattle.link_code.proofs.AddedLemmas.{length_placed, none_added}
-
-of_item : {X : Type 0} (P : X → Type 0) (xs : List X) (n : ℕ) (x : X) → All P xs → slice_get xs n ≡ Some x → P x
-of_item P xs n x all here = subst P (get_or_from_slice_get xs n x x here) (all n x (slice_get_within xs n x here))
 
 some_same : {X : Type 0} {x y : X} → Some x ≡ Some y → x ≡ y
 some_same h = cc
@@ -37,7 +32,7 @@ module _ {Instr : Type 0} (kit : Kit Instr) where
       ap length whole ∙ length-append before last ∙ omega (arith, rest, single)
 
   -- a form has an instruction
-  form_some : HaveForms kit.set kit.fits kit.aiming → (i : Instr) (form : ℕ) → kit.fits i → form ≤ 1 → 0 < length (kit.aiming.forms i form)
+  pub form_some : HaveForms kit.set kit.fits kit.aiming → (i : Instr) (form : ℕ) → kit.fits i → form ≤ 1 → 0 < length (kit.aiming.forms i form)
   form_some formed i zero fit most =
       let is = (formed i fit).short in
       let long : length (kit.aiming.forms i 0) ≡ 1 = ap length is.1 in
@@ -73,19 +68,19 @@ module _ {Instr : Type 0} (kit : Kit Instr) where
     }
 
     -- each line has an instruction
-    some_code : IsReady kit laid → HaveForms kit.set kit.fits kit.aiming → (number : ℕ) (code : List Instr) → 0 < number
+    some_code : IsReady kit site laid → HaveForms kit.set kit.fits kit.aiming → (number : ℕ) (code : List Instr) → 0 < number
         → AreJoined (IsLine kit site laid) number code → 0 < length code
     some_code ready formed zero code some are = absurd (omega arith)
     some_code ready formed (suc number) code some (before, last, are, is, whole) =
         let fit : kit.fits is.line.instr
-        = of_item (λ (line : Line Instr). kit.fits line.instr) laid.body.code number is.line ready.fit is.here in
+        = fit_at (λ (line : Line Instr). kit.fits line.instr) laid.body.code number is.line ready.fit is.here in
         let more = form_some formed is.line.instr (slice_index laid.sizes.forms number) fit (ready.told.form number) in
         let long = line_long number last is in
         let both : length code ≡ length before + length last = ap length whole ∙ length-append before last in
         omega (arith, more, long, both)
 
     -- with all its lines a function is placed
-    pub whole : IsReady kit laid → HaveForms kit.set kit.fits kit.aiming → (number : ℕ) (items : List (Placed Instr))
+    pub whole : IsReady kit site laid → HaveForms kit.set kit.fits kit.aiming → (number : ℕ) (items : List (Placed Instr))
         → number ≡ length laid.body.code
         → AreAdded kit.set kit.fits (AreJoined (IsLine kit site laid) number) site.entry (begins_at kit site laid number) [] items
         → IsCode kit site laid items

@@ -56,12 +56,14 @@ module _ {Instr : Type 0} (kit : Kit Instr) where
         (i j : Instr) → slice_get form (length form - 1) ≡ Some i
         → ¬ IsAimed refer back (at + bytes_of kit.set (take (length form - 1) form)) i j
 
-  -- what is relied on of a function's lines where they are placed
-  pub record IsReady (laid : Laid Instr) : Type 0 where
+  -- what is relied on of a function's lines where they are placed: each leads somewhere, where it refers to something
+  pub record IsReady (site : Site) (laid : Laid Instr) : Type 0 where
     pub told : IsTold kit laid
     pub sized : IsSized (lines_in laid) laid.sizes
     pub fit : All (λ line. kit.fits line.instr) laid.body.code
     pub some : 0 < length laid.body.code
+    pub leads : (number : ℕ) (line : Line Instr) (refer : Refer) → slice_get laid.body.code number ≡ Some line → line.refer ≡ Some refer
+        → (goal : ℕ) × (goal_of kit site laid refer.to ≡ Some goal)
 
   -- the form that the line of this number has
   abbrev pub form_in : Laid Instr → ℕ → Line Instr → List Instr
@@ -93,12 +95,18 @@ module _ {Instr : Type 0} (kit : Kit Instr) where
       pub some : 0 < length code
       pub long : bytes_of kit.set code ≡ laid.sizes.length
 
-    -- the line of this number can't hold what it refers to
+    -- no instruction that the line of this number may end with holds the address that the line refers to
     pub record IsTooFar (number : ℕ) : Type 0 where
       pub line : Line Instr
       pub here : slice_get laid.body.code number ≡ Some line
-      pub beyond : IsBeyond (goal_of kit site laid) line.refer (line_address site laid (number - 1)) (line_address site laid number)
-          (form_in laid number line)
+      pub refer : Refer
+      pub refers : line.refer ≡ Some refer
+      pub goal : ℕ
+      pub leads : goal_of kit site laid refer.to ≡ Some goal
+      pub beyond : (i j : Instr) → slice_get (form_in laid number line) (length (form_in laid number line) - 1) ≡ Some i
+          → ¬ Aims kit.set kit.fits kit.aiming i refer.part
+          (seen_from refer.part (line_address site laid (number - 1))
+          (line_address site laid number + bytes_of kit.set (take (length (form_in laid number line) - 1) (form_in laid number line)))) goal j
 
     -- it's the first such line
     pub record IsUnreached (number : ℕ) : Type 0 where

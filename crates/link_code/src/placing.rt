@@ -90,7 +90,7 @@ fn push_line<T: Target>(
     site: &Site<'_>,
     number: usize,
 ) -> Result<(), PlaceNo>
-    requires ready { let kit = kit_of T.instructions T.fits T.MACHINE T.QUANTUM T.SHAPE T.selection T.aiming T.entry T.check T.begins in spec.IsReady kit laid.now }
+    requires ready { let kit = kit_of T.instructions T.fits T.MACHINE T.QUANTUM T.SHAPE T.selection T.aiming T.entry T.check T.begins in spec.IsReady kit site.now laid.now }
     requires within { number < length laid.now.body.code }
     requires low { site.now.entry < 2 ^ 63 }
     ensures ok { let kit = kit_of T.instructions T.fits T.MACHINE T.QUANTUM T.SHAPE T.selection T.aiming T.entry T.check T.begins in
@@ -116,7 +116,7 @@ fn place_lines<T: Target>(
     laid: &Laid<T::Instr>,
     site: &Site<'_>,
 ) -> Result<Vec<Placed<T::Instr>>, PlaceNo>
-    requires ready { let kit = kit_of T.instructions T.fits T.MACHINE T.QUANTUM T.SHAPE T.selection T.aiming T.entry T.check T.begins in spec.IsReady kit laid.now }
+    requires ready { let kit = kit_of T.instructions T.fits T.MACHINE T.QUANTUM T.SHAPE T.selection T.aiming T.entry T.check T.begins in spec.IsReady kit site.now laid.now }
     requires low { site.now.entry < 2 ^ 63 }
     ensures code { let kit = kit_of T.instructions T.fits T.MACHINE T.QUANTUM T.SHAPE T.selection T.aiming T.entry T.check T.begins in
         IfOk result (λ placed. spec.IsCode kit site.now laid.now placed.items) }

@@ -123,6 +123,12 @@ last_counts : (stmts : List Stmt) → is_end (slice_get stmts (length stmts - 1)
 last_counts [] end = absurd (cc)
 last_counts (stmt ∷ stmts) end = omega arith
 
+-- a reference leads to one of so many symbols, to the routine that grows the stack, or to a line of the function
+abbrev pub Leads : {I : Type 0} → Guard I → ℕ → List (Line I) → To → Type 0
+Leads guard symbols lines (to.Symbol symbol off) = symbol < symbols
+Leads guard symbols lines to.Grow = Unit {0}
+Leads guard symbols lines goal = (line : ℕ) × (line_at guard lines goal ≡ Some line) × (line < length lines)
+
 module _ {I : Type 0} (set : InstructionSet I) (fits : I → Type 0) (aiming : Aiming I) (rules : Rules I) (function : Function)
     (frame : FrameShape) (guard : Guard I) (entry : List I) (statements : PickLaws set fits aiming rules)
     (frames : FrameLaws fits aiming guard entry) where
@@ -242,39 +248,39 @@ module _ {I : Type 0} (set : InstructionSet I) (fits : I → Type 0) (aiming : A
       subst (All P) (sym (lines_picks lines are))
       (All-append P (map picked are.code.lines) (closing checks guard) third (closing_all P block))
 
-  -- What lines refer to: symbols, statements up to this number, and the places round a check, where there is one
-  abbrev IsSeen : ℕ → To → Type 0
-  IsSeen top (to.Symbol symbol off) = Unit {0}
-  IsSeen top to.Grow = Unit {0}
-  IsSeen top (to.Stmt number) = number ≤ top
-  IsSeen top to.Entry = Unit {0}
-  IsSeen top to.Block = checks ≡ true
-  IsSeen top to.Past = (checks ≡ true) × (guard.in_place ≡ true)
+  -- What lines refer to: so many symbols, statements up to this number, and the places round a check, where there is one
+  abbrev IsSeen : ℕ → ℕ → To → Type 0
+  IsSeen symbols top (to.Symbol symbol off) = symbol < symbols
+  IsSeen symbols top to.Grow = Unit {0}
+  IsSeen symbols top (to.Stmt number) = number ≤ top
+  IsSeen symbols top to.Entry = Unit {0}
+  IsSeen symbols top to.Block = checks ≡ true
+  IsSeen symbols top to.Past = (checks ≡ true) × (guard.in_place ≡ true)
 
-  around_seen : (top : ℕ) → checks ≡ true → (goal : To) → IsAround guard.in_place goal → IsSeen top goal
-  around_seen top is (to.Symbol symbol off) around = tt
-  around_seen top is to.Grow around = tt
-  around_seen top is (to.Stmt number) around = absurd around
-  around_seen top is to.Entry around = tt
-  around_seen top is to.Block around = is
-  around_seen top is to.Past around = (is, around)
+  around_seen : (symbols top : ℕ) → checks ≡ true → (goal : To) → IsAround guard.in_place goal → IsSeen symbols top goal
+  around_seen symbols top is (to.Symbol symbol off) around = absurd around
+  around_seen symbols top is to.Grow around = tt
+  around_seen symbols top is (to.Stmt number) around = absurd around
+  around_seen symbols top is to.Entry around = tt
+  around_seen symbols top is to.Block around = is
+  around_seen symbols top is to.Past around = (is, around)
 
   named_seen : (symbols count top : ℕ) → ((number : ℕ) → number < count → number ≤ top) → (operands : List Operand) (goal : To)
-      → All (IsValidOperand symbols count) operands → IsNamed operands goal → IsSeen top goal
+      → All (IsValidOperand symbols count) operands → IsNamed operands goal → IsSeen symbols top goal
   named_seen symbols count top labels [] goal valid named = absurd named
   named_seen symbols count top labels (first ∷ operands) goal valid (inl named) =
       one first (All-head (IsValidOperand symbols count) first operands valid) named
     where
-      one : (item : Operand) → IsValidOperand symbols count item → Names item goal → IsSeen top goal
-      one (operand.Sym symbol off address) valid named = subst (IsSeen top) (sym named) tt
-      one (operand.Label statement) valid named = subst (IsSeen top) (sym named) (labels statement valid)
+      one : (item : Operand) → IsValidOperand symbols count item → Names item goal → IsSeen symbols top goal
+      one (operand.Sym symbol off address) valid named = subst (IsSeen symbols top) (sym named) valid
+      one (operand.Label statement) valid named = subst (IsSeen symbols top) (sym named) (labels statement valid)
       one _ valid named = absurd named
   named_seen symbols count top labels (first ∷ operands) goal valid (inr named) =
       named_seen symbols count top labels operands goal (All-tail (IsValidOperand symbols count) first operands valid) named
 
-  jump_seen : (top : ℕ) → length function.stmts ≤ top → (goal : To) → IsNamed (self_jump function).operands goal → IsSeen top goal
-  jump_seen top most goal (inl named) = subst (IsSeen top) (sym named) most
-  jump_seen top most goal (inr none) = absurd none
+  jump_seen : (symbols top : ℕ) → length function.stmts ≤ top → (goal : To) → IsNamed (self_jump function).operands goal → IsSeen symbols top goal
+  jump_seen symbols top most goal (inl named) = subst (IsSeen symbols top) (sym named) most
+  jump_seen symbols top most goal (inr none) = absurd none
 
   checked_length : checks ≡ true → guard.in_place ≡ true → length guard.head + length guard.block ≤ length (opening guard entry checks)
   checked_length is placed =
@@ -283,18 +289,18 @@ module _ {I : Type 0} (set : InstructionSet I) (fits : I → Type 0) (aiming : A
       omega (arith, ap length whole, length-append (guard.head ++ guard.block) (map plain entry), length-append guard.head guard.block)
 
   -- each has its line
-  goal_seen : (top : ℕ) (lines : List (Line I)) → HasStmt top lines → length (opening guard entry checks) < length lines
-      → (goal : To) → IsSeen top goal → is_outside goal ≡ false
+  goal_seen : (symbols top : ℕ) (lines : List (Line I)) → HasStmt top lines → length (opening guard entry checks) < length lines
+      → (goal : To) → IsSeen symbols top goal → is_outside goal ≡ false
       → (line : ℕ) × (line_at guard lines goal ≡ Some line) × (line < length lines)
-  goal_seen top lines has longer (to.Symbol symbol off) seen inside = absurd (cc)
-  goal_seen top lines has longer to.Grow seen inside = absurd (cc)
-  goal_seen top lines has longer (to.Stmt number) seen inside =
+  goal_seen symbols top lines has longer (to.Symbol symbol off) seen inside = absurd (cc)
+  goal_seen symbols top lines has longer to.Grow seen inside = absurd (cc)
+  goal_seen symbols top lines has longer (to.Stmt number) seen inside =
       let reach : nat_le number top ≡ true = grind (arith, nat_tests) in
       let passes : stands_from number has.line ≡ true = ap (reaches_stmt number) has.stands ∙ reach in
       subst (λ (code : List (Line I)). (line : ℕ) × (line_at guard code (to.Stmt number) ≡ Some line) × (line < length code)) (sym has.is)
       (position_within (stands_from number) has.front has.back has.line passes)
-  goal_seen top lines has longer to.Entry seen inside = (0, refl, omega arith)
-  goal_seen top lines has longer to.Block seen inside = by guard.in_place refl
+  goal_seen symbols top lines has longer to.Entry seen inside = (0, refl, omega arith)
+  goal_seen symbols top lines has longer to.Block seen inside = by guard.in_place refl
     where
       by : (placed : Bool) → guard.in_place ≡ placed → (line : ℕ) × (Some (block_of guard (length lines)) ≡ Some line) × (line < length lines)
       by true is = (
@@ -307,27 +313,29 @@ module _ {I : Type 0} (set : InstructionSet I) (fits : I → Type 0) (aiming : A
         ap (λ (p : Bool). Some (if p then length guard.head else length lines - length guard.block)) is,
         omega (arith, frames.around.some),
       )
-  goal_seen top lines has longer to.Past seen inside = (
+  goal_seen symbols top lines has longer to.Past seen inside = (
     length guard.head + length guard.block,
     ap (λ (p : Bool). Some ((if p then length guard.head else length lines - length guard.block) + length guard.block)) seen.1,
     omega (arith, checked_length seen.0 seen.1),
   )
 
-  -- The instructions of a function can hold what they refer to, and that is an instruction of the function, or outside of it
-  pub is_body : (symbols : ℕ) → IsValidFunction symbols function → (lines : List (Line I))
-      → AreLines rules function frame guard entry lines → IsBody fits aiming guard lines
-  is_body symbols valid lines are =
+  -- What the lines refer to is seen from them, and each of their places has its line
+  record AllSeen (symbols : ℕ) (lines : List (Line I)) : Type 0 where
+    top : ℕ
+    has : HasStmt top lines
+    longer : length (opening guard entry checks) < length lines
+    seen : All (λ line. RefersTo (IsSeen symbols top) (picked line)) lines
+
+  all_seen : (symbols : ℕ) → IsValidFunction symbols function → (lines : List (Line I))
+      → AreLines rules function frame guard entry lines → AllSeen symbols lines
+  all_seen symbols valid lines are =
       let end = ended begun are.code are.written in
       let top : ℕ = end.top in
-      let Seen : Picked I → Type 0 = RefersTo (IsSeen top) in
-      let Pickable : Picked I → Type 0 = IsPickable fits aiming in
+      let Seen : Picked I → Type 0 = RefersTo (IsSeen symbols top) in
       let block : List (Line I) = map (λ pick. line_of pick function.pos 0 None) (closing checks guard) in
-      let has : HasStmt top lines = subst (HasStmt top) (sym are.whole) (has_more top are.code.lines block end.last) in
       let count : length begun.lines ≡ length (opening guard entry checks) = sym (length-map begun.lines picked) ∙ ap length begun_picks in
-      let longer : length (opening guard entry checks) < length lines =
-      omega (arith, end.longer, ap length are.whole, length-append are.code.lines block) in
       let around = λ (is : checks ≡ true) (pick : Picked I) (seen : RefersTo (IsAround guard.in_place) pick) (refer : Refer) (at : pick.refer ≡ Some refer).
-      around_seen top is refer.to (seen refer at) in
+      around_seen symbols top is refer.to (seen refer at) in
       let seen : All Seen (map picked lines) =
       lines_all Seen
       (λ is. All-weaker (RefersTo (IsAround guard.in_place)) Seen (around is) guard.head frames.around.head)
@@ -338,18 +346,49 @@ module _ {I : Type 0} (set : InstructionSet I) (fits : I → Type 0) (aiming : A
       (λ pick named refer at. named_seen symbols (length function.stmts) top end.labels stmt.operands refer.to fine (named refer at))
       picks (statements.refers stmt depth picks becomes)) function.stmts valid.statements)
       (λ on depth picks becomes. All-weaker (RefersTo (IsNamed (self_jump function).operands)) Seen
-      (λ pick named refer at. jump_seen top (end.jump on) refer.to (named refer at))
+      (λ pick named refer at. jump_seen symbols top (end.jump on) refer.to (named refer at))
       picks (statements.refers (self_jump function) depth picks becomes)) lines are in
+      record {
+        top = top;
+        has = subst (HasStmt top) (sym are.whole) (has_more top are.code.lines block end.last);
+        longer = omega (arith, end.longer, ap length are.whole, length-append are.code.lines block);
+        seen = all_unmapped Seen picked lines seen;
+      }
+
+  -- The instructions of a function can hold what they refer to, and that is an instruction of the function, or outside of it
+  pub is_body : (symbols : ℕ) → IsValidFunction symbols function → (lines : List (Line I))
+      → AreLines rules function frame guard entry lines → IsBody fits aiming guard lines
+  is_body symbols valid lines are =
+      let all = all_seen symbols valid lines are in
+      let Pickable : Picked I → Type 0 = IsPickable fits aiming in
       record {
         pickable = all_unmapped Pickable picked lines (lines_all Pickable (λ is. frames.head) (λ is. frames.block)
             (λ i fit. record { fit = fit; directed = λ to none. absurd (cc) })
             (All-weaker (IsValidStatement symbols (length function.stmts)) (Each Pickable)
             (λ stmt fine. statements.pickable stmt) function.stmts valid.statements)
             (λ on. statements.pickable (self_jump function)) lines are);
-        goals = All-weaker (λ line. Seen (picked line)) (HasGoal guard lines)
-            (λ line sees goal is inside. goal_seen top lines has longer goal (sees (record { to = goal; part = Whole }) is) inside)
-            lines (all_unmapped Seen picked lines seen);
+        goals = All-weaker (λ line. RefersTo (IsSeen symbols all.top) (picked line)) (HasGoal guard lines)
+            (λ line sees goal is inside.
+            goal_seen symbols all.top lines all.has all.longer goal (sees (record { to = goal; part = Whole }) is) inside)
+            lines all.seen;
       }
+
+  seen_leads : (symbols top : ℕ) (lines : List (Line I)) → HasStmt top lines → length (opening guard entry checks) < length lines
+      → (goal : To) → IsSeen symbols top goal → Leads guard symbols lines goal
+  seen_leads symbols top lines has longer (to.Symbol symbol off) seen = seen
+  seen_leads symbols top lines has longer to.Grow seen = tt
+  seen_leads symbols top lines has longer (to.Stmt number) seen = goal_seen symbols top lines has longer (to.Stmt number) seen refl
+  seen_leads symbols top lines has longer to.Entry seen = goal_seen symbols top lines has longer to.Entry seen refl
+  seen_leads symbols top lines has longer to.Block seen = goal_seen symbols top lines has longer to.Block seen refl
+  seen_leads symbols top lines has longer to.Past seen = goal_seen symbols top lines has longer to.Past seen refl
+
+  -- whichever part of an address a line holds, its reference leads somewhere
+  pub all_lead : (symbols : ℕ) → IsValidFunction symbols function → (lines : List (Line I))
+      → AreLines rules function frame guard entry lines → All (λ line. RefersTo (Leads guard symbols lines) (picked line)) lines
+  all_lead symbols valid lines are =
+      let all = all_seen symbols valid lines are in
+      All-weaker (λ line. RefersTo (IsSeen symbols all.top) (picked line)) (λ line. RefersTo (Leads guard symbols lines) (picked line))
+      (λ line sees refer at. seen_leads symbols all.top lines all.has all.longer refer.to (sees refer at)) lines all.seen
 
   -- a check and its block have, together with what enters the frame, at most 14 instructions
   few_around : length (opening guard entry checks) + length (closing checks guard) ≤ 14

@@ -1,4 +1,4 @@
-use Rattle.std.proofs.Common.{◌≡◌, Err, length, ap, sym}
+use Rattle.std.proofs.Common.{◌≡◌, Err, ap, sym}
 use Rattle.branch_size.specs.Lawful.{quantum_kinds}
 use Rattle.obj_rewrite.proofs.BodyLemmas.{frame_laws, pick_laws}
 use Rattle.obj_rewrite.proofs.SettledLemmas.{settled}
@@ -37,12 +37,12 @@ laws g =
 pub place_lines-requires-clause-ready : goal.place_lines-requires-clause-ready
 place_lines-requires-clause-ready g c =
     ready (kit_of g.T.Processor.instructions g.T.Processor.fits g.T.Processor.MACHINE g.T.Processor.QUANTUM g.T.Processor.SHAPE g.T.Target.selection
-    g.T.Target.aiming g.T.Target.entry g.T.Target.check g.T.Target.begins) (laws g) (length c.args.site.now.addresses.now) c.args.laid.now c.requires.laid
+    g.T.Target.aiming g.T.Target.entry g.T.Target.check g.T.Target.begins) (laws g) c.args.site.now c.args.laid.now c.requires.laid
 
 pub list_depths-requires : goal.list_depths-requires
 list_depths-requires g c =
     (ready (kit_of g.T.Processor.instructions g.T.Processor.fits g.T.Processor.MACHINE g.T.Processor.QUANTUM g.T.Processor.SHAPE g.T.Target.selection
-    g.T.Target.aiming g.T.Target.entry g.T.Target.check g.T.Target.begins) (laws g) (length c.args.site.now.addresses.now) c.args.laid.now c.requires.laid).told
+    g.T.Target.aiming g.T.Target.entry g.T.Target.check g.T.Target.begins) (laws g) c.args.site.now c.args.laid.now c.requires.laid).told
 
 pub returns-in_err-placed-clause-unreached : goal.returns-in_err-placed-clause-unreached
 returns-in_err-placed-clause-unreached g c = λ number same.

@@ -27,7 +27,7 @@ returns-clause-far g c = λ k same.
     let line = c.line_at-line.result in
     let found = c.push_form.ensures.beyond k same in (
       found.0,
-      line_far kit site laid c.requires.ready c.args.number line (site.entry + c.place_at.result) (site.entry + c.place_at-2.result)
+      line_far kit site laid c.requires.ready g.met.T.Target.formed c.args.number line (site.entry + c.place_at.result) (site.entry + c.place_at-2.result)
           c.forms-form.result c.line_at-line.ensures
           (ap (λ (place : ℕ). site.entry + place) (c.place_at.ensures.place ∙ ap (slice_index laid.sizes.places) c.saturating_sub.ensures))
           (ap (λ (place : ℕ). site.entry + place) c.place_at-2.ensures.place)
