@@ -234,12 +234,12 @@ fn show_refusal(text: &mut Text, no: MacroNo) -> Result<(), Memory> {
     show_place(text, pos)
 }
 
-fn shown(
+fn shown<'a>(
     alloc: Global,
     limits: Limits,
-    source: &str,
-    includes: &[(Name, Tokens<'_>)],
-    defines: &[(Name, Tokens<'_>)],
+    source: &'a str,
+    includes: &'a [(Name, Tokens<'a>)],
+    defines: &'a [(Name, Tokens<'a>)],
 ) -> Result<Text, Fail> {
     let mut sources = Vec::new(alloc);
     sources.push(lex(alloc, 1, source.as_bytes())?)?;
