@@ -50,15 +50,30 @@ fn judge_unit<I>(
     ensures defined { IfOk result (λ _. spec.code_undefined names.now number code.now ≡ []) }
     ensures first { (name : List ℕ) → result ≡ Err (N2 name) → slice_get (spec.code_undefined names.now number code.now) 0 ≡ Some name }
 {
+    judge_functions(alloc, names, number, code)?;
+    judge_addresses(alloc, names, number, code.unit)?;
+    Ok(())
+}
+
+// Judges the functions of a unit.
+fn judge_functions<I>(
+    alloc: Global,
+    names: &Names<'_>,
+    number: usize,
+    code: &UnitCode<'_, I>,
+) -> Result<(), SymbolNo>
+    requires { IsUnitWithin code.now }
+    ensures defined { IfOk result (λ _. spec.parts_undefined names.now number code.now.unit.now.symbols code.now.parts.items ≡ []) }
+    ensures first { (name : List ℕ) → result ≡ Err (N2 name)
+        → slice_get (spec.parts_undefined names.now number code.now.unit.now.symbols code.now.parts.items) 0 ≡ Some name }
+{
     judge_parts(
         alloc,
         names,
         number,
         code.unit.symbols.as_slice(),
         code.parts.as_slice(),
-    )?;
-    judge_addresses(alloc, names, number, code.unit)?;
-    Ok(())
+    )
 }
 
 fn judge_parts<I>(

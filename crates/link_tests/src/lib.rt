@@ -7,3 +7,5 @@ mod code_tests;
 mod names_tests;
 #[cfg(test)]
 mod symbols_tests;
+mod functions_tests;
+mod units;

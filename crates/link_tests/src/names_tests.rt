@@ -1,9 +1,9 @@
 //! What the names of builds stand for, and the first refusal.
-ghost use Rattle.std.specs.Prelude.{All, IfOk};
+ghost use Rattle.std.specs.Prelude.{All};
 ghost use Rattle.asm_parse.specs.Valid.{IsValidUnit};
 
-use asm_lex::lex;
-use asm_parse::{ParseNo, Unit, parse};
+use crate::units::unit_of;
+use asm_parse::Unit;
 use goasm_base::{Memory, Name, Text};
 use link_names::{
     DataNo, Meaning, Names, NamesNo, SymbolNo, judge_addresses, judge_data, judge_entry,
@@ -14,16 +14,6 @@ use std::test::Fail;
 
 // The sources of two units, an outside name, the entry, and what is told.
 type Row<'a> = (&'a str, &'a str, &'a str, &'a str, &'a str);
-
-fn unit_of(alloc: Global, file: u32, source: &str) -> Result<Unit, Fail>
-    ensures { IfOk result IsValidUnit }
-{
-    let tokens = lex(alloc, file, source.as_bytes())?;
-    if tokens.list.as_slice().len() > 4_000_000 {
-        return Err(ParseNo::Memory)?;
-    }
-    Ok(parse(alloc, &tokens, |name: &[u8]| matches!(name, b"AX"))?)
-}
 
 // What the entry stands for, or the first refusal.
 fn told(
