@@ -43,11 +43,11 @@ use Rattle.pclntab.specs.Table.{IsTable}
 
 -- what the law on lines and instructions says of a target
 pub record CoversCode {Instr : Type 0} (kit : Kit Instr) : Type 0 where
-  pub depths : (symbols : ℕ) (site : Site) (laid : Laid Instr) (items : List (Placed Instr)) (depths : List ℕ) (runs : List Run)
-      → IsOfUnit kit symbols laid → (is : IsCode kit site laid items) → HaveDepths kit laid depths
+  pub depths : (site : Site) (laid : Laid Instr) (items : List (Placed Instr)) (depths : List ℕ) (runs : List Run)
+      → IsOfUnit kit (length site.addresses.now) laid → (is : IsCode kit site laid items) → HaveDepths kit laid depths
       → CoverLines kit laid (λ line. line.depth) runs → Covers 0 (ends_from kit.set 0 is.code) (map pos depths) runs
-  pub values : (symbols : ℕ) (site : Site) (laid : Laid Instr) (items : List (Placed Instr)) (value : Line Instr → ℕ) (runs : List Run)
-      → IsOfUnit kit symbols laid → (is : IsCode kit site laid items) → CoverLines kit laid value runs
+  pub values : (site : Site) (laid : Laid Instr) (items : List (Placed Instr)) (value : Line Instr → ℕ) (runs : List Run)
+      → IsOfUnit kit (length site.addresses.now) laid → (is : IsCode kit site laid items) → CoverLines kit laid value runs
       → CoverCode kit laid is.code value runs
 
 some_same : {X : Type 0} {x y : X} → Some x ≡ Some y → x ≡ y
@@ -163,13 +163,13 @@ module _ {Instr : Type 0} (kit : Kit Instr) (growth : Option ℕ) (covers : Cove
         (is.table_all.stretches index one.part (inside index one here)) in
         let same : table_in bytes ≡ image.table = is.image_told.table in
         let ends = ends_from kit.set 0 well.code.code in
-        let line = covers.values one.symbols one.site one.laid one.placed (λ line. line.pos.line) one.part.line well.of_unit well.code well.told.line in
-        let file = covers.values one.symbols one.site one.laid one.placed (λ line. well.told.index line.pos.file) one.part.file well.of_unit well.code
+        let line = covers.values one.site one.laid one.placed (λ line. line.pos.line) one.part.line well.of_unit well.code well.told.line in
+        let file = covers.values one.site one.laid one.placed (λ line. well.told.index line.pos.file) one.part.file well.of_unit well.code
         well.told.file in
         record {
           depth = subst (λ table. DepthsOver table index ends (map pos one.depths)) (sym same)
               (told.depths ends (map pos one.depths)
-              (covers.depths one.symbols one.site one.laid one.placed one.depths one.part.depth well.of_unit well.code well.depths well.told.depth));
+              (covers.depths one.site one.laid one.placed one.depths one.part.depth well.of_unit well.code well.depths well.told.depth));
           lines = line.values;
           line = subst (λ table. LinesOver table index ends (map pos line.values)) (sym same)
               (told.lines ends (map pos line.values) line.covers);

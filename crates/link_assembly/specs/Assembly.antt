@@ -22,10 +22,9 @@ use Rattle.pclntab.specs.Table.{IsTable}
 use Rattle.unit_listing.specs.declared.laid.Laid.{Laid}
 use Rattle.unit_listing.specs.Kit.{Kit}
 
--- A function: how many symbols its unit has, where it stands, its instructions before they were placed and after, their depths, and
--- what the function table is given of it
+-- A function: where it stands, its instructions before they were placed and after, their depths, and what the function table is given
+-- of it
 pub record Assembled (Instr : Type 0) : Type 0 where
-  pub symbols : ℕ
   pub site : Site
   pub laid : Laid Instr
   pub placed : List (Placed Instr)
@@ -51,7 +50,7 @@ module _ {Instr : Type 0} (kit : Kit Instr) where
 
   -- The function stands at its address, and the table tells of it. There it keeps the flow rules, and goes to no unknown address
   pub record IsAssembled (files : ℕ) (around : Surroundings) (outside : List ℕ) (one : Assembled Instr) : Type 0 where
-    pub of_unit : IsOfUnit kit one.symbols one.laid
+    pub of_unit : IsOfUnit kit (length one.site.addresses.now) one.laid
     pub code : IsCode kit one.site one.laid one.placed
     pub depths : HaveDepths kit one.laid one.depths
     pub entry : one.site.entry ≡ elf.text_address + one.part.entry

@@ -127,7 +127,7 @@ module _ {Instr : Type 0} (kit : Kit Instr) where
         omega (arith, long)
     form_some i (suc (suc form)) fit most = absurd (omega arith)
 
-    module _ (site : Site) (laid : Laid Instr) (ready : IsReady kit laid) where
+    module _ (site : Site) (laid : Laid Instr) (ready : IsReady kit site laid) where
       ends_at : ℕ → ℕ
       ends_at number = place (lines_in kit laid) (at laid.sizes.forms) number
 

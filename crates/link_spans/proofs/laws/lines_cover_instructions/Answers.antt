@@ -33,15 +33,15 @@ laws g =
     }
 
 pub returns-clause-depths : goal.returns-clause-depths
-returns-clause-depths g c = λ symbols site laid items depths runs of_unit is have covers.
+returns-clause-depths g c = λ site laid items depths runs of_unit is have covers.
     let kit = kit_of g.T.Processor.instructions g.T.Processor.fits g.T.Processor.MACHINE g.T.Processor.QUANTUM g.T.Processor.SHAPE g.T.Target.selection
     g.T.Target.aiming g.T.Target.entry g.T.Target.check g.T.Target.begins in
-    cover_depths kit g.met.T.Target.formed g.met.T.Target.same_lengths site laid (ready kit (laws g) symbols laid of_unit)
+    cover_depths kit g.met.T.Target.formed g.met.T.Target.same_lengths site laid (ready kit (laws g) site laid of_unit)
     g.met.T.Processor.lengths c.finer_stretches.ensures items depths runs is have covers
 
 pub returns-clause-values : goal.returns-clause-values
-returns-clause-values g c = λ symbols site laid items value runs of_unit is covers.
+returns-clause-values g c = λ site laid items value runs of_unit is covers.
     let kit = kit_of g.T.Processor.instructions g.T.Processor.fits g.T.Processor.MACHINE g.T.Processor.QUANTUM g.T.Processor.SHAPE g.T.Target.selection
     g.T.Target.aiming g.T.Target.entry g.T.Target.check g.T.Target.begins in
-    cover_code kit g.met.T.Target.formed g.met.T.Target.same_lengths site laid (ready kit (laws g) symbols laid of_unit) value
+    cover_code kit g.met.T.Target.formed g.met.T.Target.same_lengths site laid (ready kit (laws g) site laid of_unit) value
     g.met.T.Processor.lengths c.finer_stretches.ensures items is runs covers
