@@ -238,8 +238,8 @@ fn shown<'a>(
     alloc: Global,
     limits: Limits,
     source: &'a str,
-    includes: &'a [(Name, Tokens<'a>)],
-    defines: &'a [(Name, Tokens<'a>)],
+    includes: &[(Name, Tokens<'a>)],
+    defines: &[(Name, Tokens<'a>)],
 ) -> Result<Text, Fail> {
     let mut sources = Vec::new(alloc);
     sources.push(lex(alloc, 1, source.as_bytes())?)?;
