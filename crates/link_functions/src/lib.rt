@@ -8,4 +8,4 @@ mod references;
 
 pub use code::{Part, UnitCode};
 pub use laying::lay_all;
-pub use references::judge_references;
+pub use references::{growth_of, judge_references};

@@ -171,8 +171,9 @@ fn judge_growth(alloc: Global, names: &Names<'_>, flags: u32) -> Result<(), Symb
     }
 }
 
-// Its name.
-fn growth_of(flags: u32) -> &'static [u8]
+/// The name of the routine that grows the stack of a function with these flags: `runtime.morestack_noctxt`, or `runtime.morestack`
+/// where the function has the flag NEEDCTXT.
+pub fn growth_of(flags: u32) -> &'static [u8]
     ensures { result.now ≡ growth_name flags }
 {
     if flags & NEEDCTXT == 0 {

@@ -1,0 +1,5 @@
+pub mod SizeLemmas
+pub mod PlacedLemmas
+pub mod TellLemmas
+pub mod PaddedLemmas
+mod Examples
