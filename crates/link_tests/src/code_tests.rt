@@ -215,17 +215,17 @@ fn branches_are_aimed_in_their_forms(rt: HostRuntime) -> Result<(), Fail> {
     Ok(())
 }
 
-// The first instruction that goes astray, where the addresses of symbols are in order.
+// The first instruction that goes astray, with symbols at these addresses.
 fn astray<T: Target>(
+    alloc: Global,
     code: &[Placed<T::Instr>],
     text: (u64, u64),
     symbols: &[u64],
-) -> Option<Option<usize>> {
-    if symbols.is_sorted() {
-        Some(find_astray::<T>(code, text, symbols))
-    } else {
-        None
-    }
+) -> Result<Option<usize>, Memory> {
+    let mut sorted = Vec::new(alloc);
+    sorted.extend_from_slice(symbols)?;
+    sorted.sort_unstable();
+    Ok(find_astray::<T>(code, text, &sorted))
 }
 
 // A call to 0, a branch to 112 bytes behind itself, and a return.
@@ -254,13 +254,15 @@ const CODE: [Placed<Instr>; 3] = [
 ];
 
 #[test]
-fn instructions_that_go_astray_are_found(rt: HostRuntime) {
-    assert!(rt; astray::<Linked>(&CODE, (4096, 4112), &[]) == Some(Some(0)));
-    assert!(rt; astray::<Linked>(&CODE, (4096, 4112), &[0]) == Some(Some(1)));
-    assert!(rt; astray::<Linked>(&CODE, (4096, 4216), &[0]) == Some(Some(1)));
-    assert!(rt; astray::<Linked>(&CODE, (4096, 4217), &[0]) == Some(None));
-    assert!(rt; astray::<Linked>(&CODE, (4096, 4112), &[0, 4216, 5000]) == Some(None));
-    assert!(rt; astray::<Linked>(&CODE, (0, 4112), &[4215, 4217]) == Some(Some(1)));
+fn instructions_that_go_astray_are_found(rt: HostRuntime) -> Result<(), Memory> {
+    let alloc = rt.alloc();
+    assert!(rt; astray::<Linked>(alloc, &CODE, (4096, 4112), &[])? == Some(0));
+    assert!(rt; astray::<Linked>(alloc, &CODE, (4096, 4112), &[0])? == Some(1));
+    assert!(rt; astray::<Linked>(alloc, &CODE, (4096, 4216), &[0])? == Some(1));
+    assert!(rt; astray::<Linked>(alloc, &CODE, (4096, 4217), &[0])? == None);
+    assert!(rt; astray::<Linked>(alloc, &CODE, (4096, 4112), &[5000, 0, 4216])? == None);
+    assert!(rt; astray::<Linked>(alloc, &CODE, (0, 4112), &[4215, 4217])? == Some(1));
+    Ok(())
 }
 
 // Behind a text of 15 bytes, so that one is missing to the next multiple of 16 behind the code.
