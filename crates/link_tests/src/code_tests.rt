@@ -9,7 +9,7 @@ use asm_parse::{ParseNo, Unit, parse};
 use asm_target::{Placed, Target};
 use asm_target_linked::{Instr, Linked, Op};
 use goasm_base::{Function, Memory, Text};
-use link_code::{Code, PlaceNo, Site, find_astray, line_of, place, pos_at, push_code};
+use link_code::{Code, PlaceNo, Site, line_of, place, pos_at, push_code};
 use std::alloc::Global;
 use std::process::Abort;
 use std::test::Fail;
@@ -215,19 +215,6 @@ fn branches_are_aimed_in_their_forms(rt: HostRuntime) -> Result<(), Fail> {
     Ok(())
 }
 
-// The first instruction that goes astray, with symbols at these addresses.
-fn astray<T: Target>(
-    alloc: Global,
-    code: &[Placed<T::Instr>],
-    text: (u64, u64),
-    symbols: &[u64],
-) -> Result<Option<usize>, Memory> {
-    let mut sorted = Vec::new(alloc);
-    sorted.extend_from_slice(symbols)?;
-    sorted.sort_unstable();
-    Ok(find_astray::<T>(code, text, &sorted))
-}
-
 // A call to 0, a branch to 112 bytes behind itself, and a return.
 const CODE: [Placed<Instr>; 3] = [
     Placed {
@@ -252,18 +239,6 @@ const CODE: [Placed<Instr>; 3] = [
         instr: Instr::Plain(Op::Return),
     },
 ];
-
-#[test]
-fn instructions_that_go_astray_are_found(rt: HostRuntime) -> Result<(), Memory> {
-    let alloc = rt.alloc();
-    assert!(rt; astray::<Linked>(alloc, &CODE, (4096, 4112), &[])? == Some(0));
-    assert!(rt; astray::<Linked>(alloc, &CODE, (4096, 4112), &[0])? == Some(1));
-    assert!(rt; astray::<Linked>(alloc, &CODE, (4096, 4216), &[0])? == Some(1));
-    assert!(rt; astray::<Linked>(alloc, &CODE, (4096, 4217), &[0])? == None);
-    assert!(rt; astray::<Linked>(alloc, &CODE, (4096, 4112), &[5000, 0, 4216])? == None);
-    assert!(rt; astray::<Linked>(alloc, &CODE, (0, 4112), &[4215, 4217])? == Some(1));
-    Ok(())
-}
 
 // Behind a text of 15 bytes, so that one is missing to the next multiple of 16 behind the code.
 #[test]
