@@ -5,6 +5,7 @@ ghost use Rattle.goasm_base.specs.Refusals.{Judges};
 ghost use Rattle.std.specs.Option.{option_to_list};
 ghost use Rattle.asm_lex.specs.Faults as spec;
 ghost use Rattle.asm_lex.specs.Form.{AreTokens};
+ghost use Rattle.asm_lex.specs.Lines.{last_line};
 
 use crate::byte_faults::{utf8_fault, zero_fault};
 use crate::cut::cut_source;
@@ -19,15 +20,18 @@ use std::alloc::Global;
 /// They are refused exactly where something in them is, with the first refusal: by lines, where an open text or
 /// comment counts at the line where it begins, and at one line the refusal with the lowest number. Only want of
 /// memory may come in place of any answer.
-#[tactic(auto, using(crate::proofs::CutLemmas::first_of_all, crate::proofs::FormLemmas::cut_formed, crate::proofs::FirstLemmas::refused_first, crate::proofs::FirstLemmas::none_found, crate::proofs::PlaceLemmas::tokens_in, crate::proofs::PlaceLemmas::tokens_few, crate::proofs::PlaceLemmas::refusal_in))]
+///
+/// Lines count from 1. The count stays at 2^31 - 2, so that no token has a greater one.
+#[tactic(auto, using(crate::proofs::CutLemmas::first_of_all, crate::proofs::FormLemmas::cut_formed, crate::proofs::FirstLemmas::refused_first, crate::proofs::FirstLemmas::none_found, crate::proofs::PlaceLemmas::tokens_in, crate::proofs::PlaceLemmas::tokens_counted, crate::proofs::PlaceLemmas::tokens_few, crate::proofs::PlaceLemmas::refusal_in))]
 pub fn lex<'a>(alloc: Global, file: u32, bytes: &'a [u8]) -> Result<Tokens<'a>, LexNo>
     ensures exact { Judges LexNo.Memory result (refusal_of file bytes.now) }
     ensures first { IfErr result (λ no. no ≢ LexNo.Memory → IsFirstRefusal file (faults_of file bytes.now) no) }
     ensures none { OnOk result (faults_of file bytes.now ≡ []) }
     ensures tokens { IfOk result (λ tokens. tokens ≡ tokens_of file bytes.now) }
     ensures formed { IfOk result (λ tokens. AreTokens tokens) }
-    // All stand in the file, and each but the last takes a byte at least.
+    // All stand in the file, on lines up to the greatest one, and each but the last takes a byte at least.
     ensures places { All (λ token. token.pos.file ≡ file) (tokens_of file bytes.now).list }
+    ensures lines { All (λ token. token.pos.line ≤ last_line) (tokens_of file bytes.now).list }
     ensures few { length (tokens_of file bytes.now).list ≤ length bytes.now + 1 }
     ensures place { IfErr result (IsInFile file) }
 {

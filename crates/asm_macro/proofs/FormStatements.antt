@@ -1,8 +1,9 @@
 -- The statements of tokens that may be handed on.
-use Rattle.std.proofs.Common.{◌≡◌, ℕ, ◌&&◌, Bool, true, false, List, [], ◌∷◌, All, inl, inr, refl, map}
+use Rattle.std.proofs.Common.{◌≡◌, ◌&&◌, Bool, true, false, List, [], ◌∷◌, All, inl, inr, refl, map}
 use Rattle.std.specs.List.{flat_map, onto_first}
 use Rattle.std.proofs.lemmas.Bool.{cases_Bool}
 use Rattle.std.proofs.lemmas.List.Elements.{All-nil, All-cons, All-head, All-tail, All-append, All-map, All-weaker}
+use Rattle.goasm_base.specs.declared.pos.Pos.{Pos}
 use Rattle.asm_lex.specs.declared.token.Kind.TheVariants as kinds
 use Rattle.asm_lex.specs.declared.token.Token.{Token}
 use Rattle.asm_lex.specs.Form.{EndsWithEnd}
@@ -11,11 +12,11 @@ use Rattle.asm_directive.specs.Statements.{Statement, split_inclusive, begins_wi
 use Rattle.asm_macro.proofs.RefusalLemmas.{holds_either}
 use Rattle.asm_macro.proofs.FormLemmas.{IsFormed, Formed, IsSound, Sound, end_is}
 
-pub formed_of : (P : ℕ → Type 0) (tokens : List Token) → Sound P tokens → Formed tokens
+pub formed_of : (P : Pos → Type 0) (tokens : List Token) → Sound P tokens → Formed tokens
 formed_of P tokens sound = All-weaker (IsSound P) IsFormed (λ token sound. sound.form) tokens sound
 
 -- tokens that may be handed on
-pub record AreGood (P : ℕ → Type 0) (tokens : List Token) : Type 0 where
+pub record AreGood (P : Pos → Type 0) (tokens : List Token) : Type 0 where
   pub sound : Sound P tokens
   pub ends : EndsWithEnd tokens
 
@@ -93,11 +94,11 @@ unfolding is_newline is_end
 newline_ends token is = end_is token (both_first _ _ is)
 
 -- a statement, whose tokens end with an end where it is no directive
-pub record GoodStatement (P : ℕ → Type 0) (statement : Statement) : Type 0 where
+pub record GoodStatement (P : Pos → Type 0) (statement : Statement) : Type 0 where
   pub sound : Sound P statement.tokens
   pub ends : statement.directive ≡ false → AreEnded statement.tokens
 
-parts_good : (P : ℕ → Type 0) (parts : List (List Token)) → All (Sound P) parts → All AreEnded parts → All (GoodStatement P) (map plain parts)
+parts_good : (P : Pos → Type 0) (parts : List (List Token)) → All (Sound P) parts → All AreEnded parts → All (GoodStatement P) (map plain parts)
 parts_good P parts sound ended = All-map (GoodStatement P) plain parts (λ k d inside. record { sound = sound k d inside; ends = λ is. ended k d inside })
 
 ends_from : (tokens : List Token) → AreEnded tokens → EndsWithEnd tokens
@@ -105,21 +106,21 @@ ends_from [] ended = tt
 ends_from (token ∷ []) ended = ended
 ends_from (token ∷ next ∷ tokens) ended = ends_from (next ∷ tokens) ended
 
-line_good : (P : ℕ → Type 0) (line : List Token) → Sound P line → AreEnded line → All (GoodStatement P) (statements_on line)
+line_good : (P : Pos → Type 0) (line : List Token) → Sound P line → AreEnded line → All (GoodStatement P) (statements_on line)
 unfolding statements_on
 line_good P line sound ended =
     holds_either (All (GoodStatement P)) (begins_with_hash line) _ _
     (All-cons (GoodStatement P) (directive line) [] (record { sound = sound; ends = λ is. ended }) (All-nil (GoodStatement P)))
     (parts_good P (split_inclusive is_end line) (split_all (IsSound P) is_end line sound) (split_ended is_end end_is line (ends_from line ended)))
 
-lines_good : (P : ℕ → Type 0) (lines : List (List Token)) → All (Sound P) lines → All AreEnded lines → All (GoodStatement P) (flat_map statements_on lines)
+lines_good : (P : Pos → Type 0) (lines : List (List Token)) → All (Sound P) lines → All AreEnded lines → All (GoodStatement P) (flat_map statements_on lines)
 lines_good P [] sound ended = All-nil (GoodStatement P)
 lines_good P (line ∷ lines) sound ended =
     All-append (GoodStatement P) (statements_on line) (flat_map statements_on lines)
     (line_good P line (All-head (Sound P) line lines sound) (All-head AreEnded line lines ended))
     (lines_good P lines (All-tail (Sound P) line lines sound) (All-tail AreEnded line lines ended))
 
-pub statements_good : (P : ℕ → Type 0) (tokens : List Token) → AreGood P tokens → All (GoodStatement P) (statements_of tokens)
+pub statements_good : (P : Pos → Type 0) (tokens : List Token) → AreGood P tokens → All (GoodStatement P) (statements_of tokens)
 unfolding statements_of
 statements_good P tokens good =
     lines_good P (split_inclusive is_newline tokens) (split_all (IsSound P) is_newline tokens good.sound) (split_ended is_newline newline_ends tokens good.ends)

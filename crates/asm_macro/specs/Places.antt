@@ -1,5 +1,7 @@
--- The files in which tokens and refusals stand, by their numbers.
-use Rattle.std.specs.Prelude.{◌≡◌, ℕ, ◌+◌, ◌<◌, List, length, All}
+-- Where tokens and refusals stand: the files, by their numbers, and the lines of tokens.
+use Rattle.std.specs.Prelude.{◌≡◌, ℕ, ◌+◌, ◌<◌, ◌≤◌, List, length, All}
+use Rattle.goasm_base.specs.declared.pos.Pos.{Pos}
+use Rattle.goasm_base.specs.Lines.{last_line}
 use Rattle.asm_lex.specs.declared.token.Tokens.{Tokens}
 use Rattle.asm_macro.specs.declared.refusal.MacroNo.{MacroNo}
 use Rattle.asm_macro.specs.declared.refusal.MacroNo.TheVariants.{M1, M2, M3, M4, M5, M6, M7, Memory}
@@ -10,9 +12,18 @@ use Rattle.asm_macro.specs.Builds.{greatest_file}
 abbrev pub file_count : List Tokens → List (List ℕ × Tokens) → List (List ℕ × Tokens) → ℕ
 file_count sources includes defines = greatest_file sources includes defines + 1 + length (line_names_of sources includes)
 
+-- a position in one of these files, on a line up to the greatest one
+pub record StandsIn (files : ℕ → Type 0) (pos : Pos) : Type 0 where
+  pub file : files pos.file
+  pub line : pos.line ≤ last_line
+
+-- the position of each token is such a one
+abbrev pub StandIn : (ℕ → Type 0) → Tokens → Type 0
+StandIn files tokens = All (λ token. StandsIn files token.pos) tokens.list
+
 -- the tokens stand in the file itself, as those do that `lex` gives
 abbrev pub AreInTheirFile : Tokens → Type 0
-AreInTheirFile tokens = All (λ token. token.pos.file ≡ tokens.file) tokens.list
+AreInTheirFile tokens = StandIn (λ file. file ≡ tokens.file) tokens
 
 -- all that a build is made of
 pub record ArePlaced (sources : List Tokens) (includes defines : List (List ℕ × Tokens)) : Type 0 where
@@ -20,20 +31,20 @@ pub record ArePlaced (sources : List Tokens) (includes defines : List (List ℕ 
   pub in_includes : All (λ include. AreInTheirFile include.1) includes
   pub in_defines : All (λ define. AreInTheirFile define.1) defines
 
--- the file of each token is one of these
-abbrev pub StandIn : (ℕ → Type 0) → Tokens → Type 0
-StandIn files tokens = All (λ token. files token.pos.file) tokens.list
+-- the position of a refusal is one of these; want of memory has none
+abbrev pub RefusedAt : (Pos → Type 0) → MacroNo → Type 0
+RefusedAt positions (M1 pos) = positions pos
+RefusedAt positions (M2 pos) = positions pos
+RefusedAt positions (M3 pos) = positions pos
+RefusedAt positions (M4 pos) = positions pos
+RefusedAt positions (M5 pos) = positions pos
+RefusedAt positions (M6 pos) = positions pos
+RefusedAt positions (M7 pos) = positions pos
+RefusedAt positions Memory = Unit {0}
 
--- the file of a refusal is one of these; want of memory has none
+-- the file of a refusal is one of these
 abbrev pub RefusedIn : (ℕ → Type 0) → MacroNo → Type 0
-RefusedIn files (M1 pos) = files pos.file
-RefusedIn files (M2 pos) = files pos.file
-RefusedIn files (M3 pos) = files pos.file
-RefusedIn files (M4 pos) = files pos.file
-RefusedIn files (M5 pos) = files pos.file
-RefusedIn files (M6 pos) = files pos.file
-RefusedIn files (M7 pos) = files pos.file
-RefusedIn files Memory = Unit {0}
+RefusedIn files refusal = RefusedAt (λ pos. files pos.file) refusal
 
 -- the file has a number below this one
 abbrev pub IsBelow : ℕ → ℕ → Type 0

@@ -33,7 +33,8 @@ pub const LIMITS: Limits = Limits {
 /// something in them is, with the first refusal by statements in the order in which they are read, and at one
 /// statement the one with the lowest number. Only want of memory may come in place of any answer.
 ///
-/// A result or a refusal stands in a file of the build or one that `#line` names, where the tokens handed in do.
+/// A result or a refusal stands in a file of the build or one that `#line` names, and a result on a line of at most
+/// 2^31 - 2, where the tokens handed in do.
 pub fn expand<'a>(
     alloc: Global,
     sources: &[Tokens<'a>],
