@@ -23,7 +23,7 @@ use Rattle.asm_parse.specs.Numbering.{Key}
 use Rattle.asm_parse.specs.Progress.{State, nothing_yet, with_labels, ended_by, ended}
 use Rattle.asm_parse.specs.Steps.{kept_form, kept}
 use Rattle.asm_parse.specs.Parse.{is_end, statements_of, value_of, global_of}
-use Rattle.asm_parse.specs.Placed.{TokenIn, NoIn, DataIn, GlobalIn, LineIn, BodyIn, ValueIn, DeclaredIn, StateIn}
+use Rattle.asm_parse.specs.Placed.{IsIn, TokenIn, NoIn, DataIn, GlobalIn, LineIn, BodyIn, ValueIn, DeclaredIn, StateIn}
 use Rattle.asm_parse.proofs.KnownLemmas.{labelled_lines, after_code, after_data}
 use Rattle.asm_parse.proofs.SymbolLemmas.{names_operands, names_data}
 
@@ -52,7 +52,7 @@ module _ (count : ℕ) where
       subst (All (TokenIn count)) own (all at statement.tokens.now inside)
 
   -- A refusal has the place of its statement.
-  pub refusal_in : (cause : Cause) (pos : Pos) → pos.file < count → NoIn count (refusal cause pos)
+  pub refusal_in : (cause : Cause) (pos : Pos) → IsIn count pos → NoIn count (refusal cause pos)
   refusal_in DuplicateLabel pos own = own
   refusal_in NamelessArgument pos own = own
   refusal_in ArgumentSizeMissing pos own = own
@@ -90,7 +90,7 @@ module _ (count : ℕ) where
     globals = placed.globals;
   }
   ended_by_in state (Some head) is placed =
-      let own : head.pos.file < count = subst (λ (head : Option Head). IfSome head (λ head. head.pos.file < count)) is placed.head in record {
+      let own : IsIn count head.pos = subst (λ (head : Option Head). IfSome head (λ head. IsIn count head.pos)) is placed.head in record {
         bodies = All-push (BodyIn count) state.bodies _ placed.bodies (record { pos = own; lines = placed.lines });
         head = tt;
         lines = All-nil (LineIn count);
@@ -101,7 +101,7 @@ module _ (count : ℕ) where
   pub ended_in : (state : State) → StateIn count state → StateIn count (ended state)
   ended_in state placed = ended_by_in state state.head refl placed
 
-  form_in : (state : State) (pos : Pos) (form : Form) → pos.file < count → StateIn count state → StateIn count (kept_form state pos form)
+  form_in : (state : State) (pos : Pos) (form : Form) → IsIn count pos → StateIn count state → StateIn count (kept_form state pos form)
   form_in state pos Empty own placed = placed
   form_in state pos Lock own placed =
       record { bodies = placed.bodies; head = placed.head; lines = placed.lines; values = placed.values; globals = placed.globals }
@@ -117,7 +117,7 @@ module _ (count : ℕ) where
       subst (λ (s : State). StateIn count (after_code s pos line)) (sym (names_operands state line.operands).same)
       (record { bodies = placed.bodies; head = placed.head; lines = All-push (LineIn count) state.lines.lines _ placed.lines own; values = placed.values; globals = placed.globals })
 
-  pub kept_in : (state : State) (pos : Pos) (statement : Statement) → pos.file < count → StateIn count state → StateIn count (kept state pos statement)
+  pub kept_in : (state : State) (pos : Pos) (statement : Statement) → IsIn count pos → StateIn count state → StateIn count (kept state pos statement)
   kept_in state pos statement own placed = form_in (with_labels state statement.labels) pos statement.form own (labels_in state statement.labels placed)
 
   -- What is made of it has, too.

@@ -1,6 +1,7 @@
-ghost use Rattle.std.specs.Prelude.{◌≡◌, ◌<◌, true, [], not, length, map, IfOk, OnOk, IfSome};
+ghost use Rattle.std.specs.Prelude.{◌≡◌, ◌<◌, true, [], not, All, length, map, IfOk, OnOk, IfSome};
 ghost use Rattle.asm_parse.specs.Numbering as spec;
 ghost use Rattle.asm_parse.specs.Parse as parse;
+ghost use Rattle.asm_parse.specs.Valid.{IsValidSymbol};
 
 use crate::unit::Symbol;
 use asm_grammar::name_of;
@@ -66,7 +67,8 @@ impl<'a> Numbering<'a> {
 
     /// The symbols with these names.
     pub fn symbols(&self, alloc: Global) -> Result<List<Symbol>, Memory>
-        ensures { IfOk result (λ symbols. symbols ≡ map parse.symbol_of self.now) }
+        ensures exact { IfOk result (λ symbols. symbols ≡ map parse.symbol_of self.now) }
+        ensures valid { IfOk result (λ symbols. All IsValidSymbol symbols) }
     {
         let mut symbols = Vec::new(alloc);
         while let Some(key) = self.names.get_index(symbols.len()) {

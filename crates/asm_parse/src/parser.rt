@@ -28,7 +28,8 @@ const NOTHING_AHEAD: Outlook = Outlook {
 ///
 /// They are refused exactly where something in them is, with the first refusal: by statements, and at one statement the
 /// one with the lowest number. What names stand for (P3 and P8) is judged only where nothing else is refused. Only want
-/// of memory may come in place of any answer. Each place in a unit or a refusal is in a file that a token is in.
+/// of memory may come in place of any answer. No name of a symbol has a zero byte. Where each token is in one of so many
+/// files and on a line of at most `LAST_LINE`, so is each place in a unit or a refusal.
 pub fn parse<W: Fn(&[u8]) -> bool>(
     alloc: Global,
     tokens: &Tokens<'_>,

@@ -3,7 +3,7 @@ ghost use Rattle.goasm_base.specs.Statements.{IsValidFunction, IsValidStatement,
 ghost use Rattle.asm_parse.specs.Refusals.{Gives, traversed};
 ghost use Rattle.asm_parse.specs.Known.{AreFew, IsNumbered, IsKnownOperand, IsKnownLine, IsKnownBody, most_tokens};
 ghost use Rattle.asm_parse.specs.Resolve as spec;
-ghost use Rattle.asm_parse.specs.Placed.{FunctionIn, StatementIn, BodyIn, LineIn, NoIn};
+ghost use Rattle.asm_parse.specs.Placed.{IsIn, FunctionIn, StatementIn, BodyIn, LineIn, NoIn};
 ghost use Rattle.asm_parse.specs.Words.{IsAskable, Tells};
 
 use crate::lines::{Body, Line, is_aside};
@@ -78,7 +78,7 @@ fn statement_of<W: Fn(&[u8]) -> bool>(
     requires known { IsKnownLine symbols.now line.now }
     ensures exact { (word : List ℕ → Bool) → Tells (W.post is_word.now) word → Gives (spec.statement_of word symbols.now body.now line.now) result }
     ensures valid { IfOk result (IsValidStatement (length symbols.now) (length body.now.lines)) }
-    ensures placed { (count : ℕ) → line.now.pos.file < count → MatchResult result (StatementIn count) (NoIn count) }
+    ensures placed { (count : ℕ) → IsIn count line.now.pos → MatchResult result (StatementIn count) (NoIn count) }
 {
     let drafts = line.code.operands.as_slice();
     if has_unknown(is_word, body, drafts) {
@@ -108,7 +108,7 @@ fn operands_of<W: Fn(&[u8]) -> bool>(
     requires known { All (IsKnownOperand symbols.now) drafts.now }
     ensures exact { (word : List ℕ → Bool) → Tells (W.post is_word.now) word → Gives (traversed (spec.operand_of word symbols.now body.now line.now) drafts.now) result }
     ensures valid { IfOk result (λ operands. All (IsValidOperand (length symbols.now) (length body.now.lines)) operands) }
-    ensures placed { (count : ℕ) → line.now.pos.file < count → IfErr result (NoIn count) }
+    ensures placed { (count : ℕ) → IsIn count line.now.pos → IfErr result (NoIn count) }
 {
     let mut operands = Vec::new(alloc);
     for draft in drafts {
@@ -155,7 +155,7 @@ fn operand_of<W: Fn(&[u8]) -> bool>(
     requires known { IsKnownOperand symbols.now draft.now }
     ensures exact { (word : List ℕ → Bool) → Tells (W.post is_word.now) word → Gives (spec.operand_of word symbols.now body.now line.now draft.now) result }
     ensures valid { IfOk result (IsValidOperand (length symbols.now) (length body.now.lines)) }
-    ensures placed { (count : ℕ) → line.now.pos.file < count → IfErr result (NoIn count) }
+    ensures placed { (count : ℕ) → IsIn count line.now.pos → IfErr result (NoIn count) }
 {
     match draft {
         Draft::Imm(value) => Ok(Operand::Imm(*value)),
@@ -208,7 +208,7 @@ fn bare<W: Fn(&[u8]) -> bool>(
     requires short { length body.now.lines ≤ most_statements }
     ensures exact { (word : List ℕ → Bool) → Tells (W.post is_word.now) word → Gives (spec.bare word body.now pos name.now) result }
     ensures valid { (symbols : ℕ) → IfOk result (IsValidOperand symbols (length body.now.lines)) }
-    ensures placed { (count : ℕ) → pos.file < count → IfErr result (NoIn count) }
+    ensures placed { (count : ℕ) → IsIn count pos → IfErr result (NoIn count) }
 {
     if is_word(name.as_slice()) {
         return Ok(Operand::Word(name.owned(alloc)?));

@@ -1,8 +1,8 @@
-ghost use Rattle.std.specs.Prelude.{◌≡◌, ◌+◌, ◌<◌, ◌≤◌, List, ℕ, Bool, All, length, IfOk, IfErr, OnOk, MatchResult};
+ghost use Rattle.std.specs.Prelude.{◌≡◌, ◌+◌, ◌≤◌, List, ℕ, Bool, All, length, IfOk, IfErr, OnOk, MatchResult};
 ghost use Rattle.asm_grammar.specs.Statements.{HasSizes, operand_count};
 ghost use Rattle.asm_parse.specs.Refusals.{Gives, Moves};
 ghost use Rattle.asm_parse.specs.Known.{IsKnown};
-ghost use Rattle.asm_parse.specs.Placed.{TokenIn, NoIn, StateIn};
+ghost use Rattle.asm_parse.specs.Placed.{IsIn, TokenIn, NoIn, StateIn};
 ghost use Rattle.asm_parse.specs.Steps as spec;
 ghost use Rattle.asm_parse.specs.Words.{IsAskable, Tells};
 
@@ -56,7 +56,7 @@ fn read_one<'a>(alloc: Global, pos: Pos, tokens: &[Token<'a>]) -> Result<Read<'a
     ensures exact { Gives (spec.read pos tokens.now) result }
     ensures sized { IfOk result (λ read. HasSizes read.statement.form) }
     ensures few { IfOk result (λ read. operand_count read.statement.form ≤ length tokens.now + 1) }
-    ensures placed { (count : ℕ) → pos.file < count → IfErr result (NoIn count) }
+    ensures placed { (count : ℕ) → IsIn count pos → IfErr result (NoIn count) }
 {
     let mut reader = Reader::new(tokens);
     match read_statement(alloc, &mut reader) {

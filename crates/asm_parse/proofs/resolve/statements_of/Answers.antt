@@ -1,4 +1,5 @@
 use Rattle.std.proofs.Common.{ℕ, ◌+◌, [], ◌∷◌, ◌++◌, Err, length, sym, subst, ap, ◌∙◌, arith}
+use Rattle.std.specs.Prelude.{All}
 use Rattle.std.proofs.lemmas.Result.{err_from_is_err_and}
 use Rattle.std.proofs.lemmas.List.Elements.{All-push, All-same}
 use Rattle.std.proofs.lemmas.List.{length_push}
@@ -33,3 +34,6 @@ pub returns-in_err-stmt-clause-placed : goal.returns-in_err-stmt-clause-placed
 returns-in_err-stmt-clause-placed g c =
     let p = err_from_is_err_and c.from_residual.result c.from_residual.ensures.1 in
     rw (p.1, p.2) (λ count all. c.in_err-stmt.ensures.placed count (subst (LineIn count) (sym c.line-item.is) (all c.loop-line.line-index c.line-item.result c.loop-line-test.true)))
+
+pub returns-clause-placed : goal.returns-clause-placed
+returns-clause-placed g c = λ count all. subst (All (StatementIn count)) (sym c.new.ensures) (c.loop-line.invariant.placed count all)

@@ -16,8 +16,9 @@ globals_of-requires-clause-known g c = let known = rw (← c.self.view_is) at c.
 
 pub returns-clause-valid : goal.returns-clause-valid
 returns-clause-valid g c =
-    let count : length c.in_ok-symbols.field-0 ≡ length c.self.inside.symbols = ap (λ (all : List Symbol). length all) c.in_ok-symbols.ensures ∙ length-map c.self.inside.symbols symbol_of in
+    let count : length c.in_ok-symbols.field-0 ≡ length c.self.inside.symbols = ap (λ (all : List Symbol). length all) c.in_ok-symbols.ensures.exact ∙ length-map c.self.inside.symbols symbol_of in
     record {
+      names = c.in_ok-symbols.ensures.valid;
       functions = rw count c.in_ok-functions.ensures.valid;
       values = rw count c.in_ok-values.ensures.valid;
       globals = rw count c.in_ok-globals.ensures.valid;
