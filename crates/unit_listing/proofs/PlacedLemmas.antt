@@ -12,7 +12,7 @@ use Rattle.asm_target.specs.declared.body.Line.{Line}
 use Rattle.asm_target.specs.declared.refer.Picked.{Picked}
 use Rattle.asm_target.specs.declared.select_no.SelectNo.{SelectNo}
 use Rattle.asm_parse.specs.declared.unit.Unit.{Unit as Said}
-use Rattle.asm_parse.specs.Placed.{FunctionIn, StatementIn, UnitIn}
+use Rattle.asm_parse.specs.Placed.{FunctionIn, IsIn, StatementIn, UnitIn}
 use Rattle.stack_split.specs.FrameSizes.{is_checked}
 use Rattle.stack_split.specs.Opening.{opening}
 use Rattle.obj_rewrite.specs.Rewriting.{Code, Refuses, Rewrites, Rules, added, all_added, code_of, line_of}
@@ -30,7 +30,7 @@ of_item P items number item all here =
     (All-get_or P items number item (slice_get_within items number item here) all)
 
 -- what is appended stands at the function's place
-jump_in : (count : ℕ) (function : Function) (b : Bool) → function.pos.file < count
+jump_in : (count : ℕ) (function : Function) (b : Bool) → IsIn count function.pos
     → All (StatementIn count) (if b then self_jump function ∷ [] else [])
 jump_in count function true here = All-cons (StatementIn count) (self_jump function) [] here (All-nil (StatementIn count))
 jump_in count function false here = All-nil (StatementIn count)
@@ -63,7 +63,7 @@ module _ {Instr : Type 0} (count : ℕ) where
         → Rewrites rules goals stmts number before after → CodeIn after
     rewrites_in [] number before after places all same = subst CodeIn (sym same) all
     rewrites_in (stmt ∷ stmts) number before after places all (between, (picks, becomes, same), rest) =
-        let here = All-head (StatementIn count) stmt stmts places in
+        let here : stmt.pos.file < count = (All-head (StatementIn count) stmt stmts places).file in
         let code = all_added rules.change (record before { awaited = before.awaited || goals number }) picks stmt.pos (Some number) in
         let inside : CodeIn code = all_added_in rules.change picks (record before { awaited = before.awaited || goals number }) stmt.pos (Some number) all here in
         rewrites_in stmts (number + 1) between after (All-tail (StatementIn count) stmt stmts places)
@@ -73,7 +73,7 @@ module _ {Instr : Type 0} (count : ℕ) where
         → Refuses rules goals stmts number before place why → place.file < count
     refuses_in [] number before place why places none = absurd none
     refuses_in (stmt ∷ stmts) number before place why places (inl here) =
-        subst (λ (place : Pos). place.file < count) (sym here.1) (All-head (StatementIn count) stmt stmts places)
+        subst (λ (place : Pos). place.file < count) (sym here.1) (All-head (StatementIn count) stmt stmts places).file
     refuses_in (stmt ∷ stmts) number before place why places (inr (between, step, rest)) =
         refuses_in stmts (number + 1) between place why (All-tail (StatementIn count) stmt stmts places) rest
 
@@ -88,7 +88,7 @@ module _ {Instr : Type 0} (kit : Kit Instr) (count : ℕ) (function : Function) 
   opened_in =
       all_added_in count (rules_for kit function).change
       (opening (guard_of kit function) (kit.entry (frame_of kit function)) (is_checked function (frame_of kit function)))
-      (code_of [] [] 0 false) function.pos None (All-nil (LineIn count)) places.pos
+      (code_of [] [] 0 false) function.pos None (All-nil (LineIn count)) places.pos.file
 
   body_in : (body : Body Instr) → IsRewritten kit function body → All (LineIn count) body.code
   body_in body rewritten =
@@ -102,7 +102,7 @@ module _ {Instr : Type 0} (kit : Kit Instr) (count : ℕ) (function : Function) 
       let block = closing (is_checked function (frame_of kit function)) (guard_of kit function) in
       subst (All (LineIn count)) (sym rewritten.lines.whole)
       (All-append (LineIn count) rewritten.lines.code.lines (map (λ pick. line_of pick function.pos 0 None) block) code
-      (block_in count function.pos block places.pos))
+      (block_in count function.pos block places.pos.file))
 
   unwritten_in : (place : Pos) (why : SelectNo)
       → IsUnwritten (rules_for kit function) function (opened (rules_for kit function) function (frame_of kit function) (guard_of kit function)
@@ -116,7 +116,7 @@ module _ {Instr : Type 0} (kit : Kit Instr) (count : ℕ) (function : Function) 
       (jump_in count function (runs_on function.stmts) places.pos) refused
 
   refused_in : (refusal : ListingNo) → IsRefused kit function refusal → NoIn count refusal
-  refused_in (RW1 place total) refused = subst (λ (place : Pos). place.file < count) (sym refused.0) places.pos
+  refused_in (RW1 place total) refused = subst (λ (place : Pos). place.file < count) (sym refused.0) places.pos.file
   refused_in (Select place why) refused = unwritten_in place why refused.1
   refused_in (B1 place distance) (body, rewritten, out) =
       subst (λ (place : Pos). place.file < count) out.at
