@@ -14,7 +14,7 @@ use Rattle.asm_macro.specs.declared.refusal.MacroNo.{MacroNo}
 use Rattle.asm_macro.specs.declared.refusal.MacroNo.TheVariants as macros
 use Rattle.asm_directive.specs.LineNames.{token_count, included_tokens, line_names_of}
 use Rattle.asm_macro.specs.Builds.{greatest, greatest_file}
-use Rattle.asm_macro.specs.Places.{AreInTheirFile, ArePlaced, RefusedIn, StandIn, IsBelow, file_count}
+use Rattle.asm_macro.specs.Places.{AreInTheirFile, ArePlaced, RefusedIn, StandsIn, StandIn, IsBelow, file_count}
 use Rattle.asm_macro.specs.Refusals.{IsFault}
 use Rattle.asm_macro.proofs.BuildLemmas.{greatest_append}
 use Rattle.asm_macro.proofs.PlaceLemmas.{greatest_within}
@@ -180,8 +180,8 @@ pub are_expanded : (files : List (List ℕ)) (count : ℕ) (all : List Tokens)
 are_expanded files count all few stand named = record {
   few = (each_within all 0 4000000 few).1;
   placed = All-weaker (StandIn (IsBelow count)) (StandIn (IsBelow (length files)))
-      (λ tokens. All-weaker (λ token. token.pos.file < count) (λ token. token.pos.file < length files)
-      (λ token below. omega (arith, below, named)) tokens.list)
+      (λ tokens. All-weaker (λ token. StandsIn (IsBelow count) token.pos) (λ token. StandsIn (IsBelow (length files)) token.pos)
+      (λ token here. record { file = let below = here.file in omega (arith, below, named); line = here.line }) tokens.list)
       all stand;
 }
 

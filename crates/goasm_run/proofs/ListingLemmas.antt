@@ -1,8 +1,11 @@
 -- Why units have no listing: each refusal has a cause, and stands in a file that has a name.
 use Rattle.std.proofs.Common.{◌≡◌, ◌≢◌, ◌+◌, ◌<◌, ◌≤◌, ℕ, Bool, false, List, [], ◌∷◌, length, inl, inr, refl, arith, rules}
-use Rattle.std.specs.Prelude.{IsSome}
+use Rattle.std.specs.Prelude.{All, IsSome}
+use Rattle.std.proofs.lemmas.List.Elements.{All-weaker}
 use Rattle.goasm_base.specs.declared.pos.Pos.{Pos}
 use Rattle.goasm_base.specs.declared.statement.Stmt.{Stmt}
+use Rattle.asm_lex.specs.declared.token.Tokens.{Tokens}
+use Rattle.asm_macro.specs.Places.{StandsIn, StandIn, IsBelow}
 use Rattle.asm_parse.specs.declared.parse_no.ParseNo.{ParseNo}
 use Rattle.asm_parse.specs.declared.parse_no.ParseNo.TheVariants as parses
 use Rattle.asm_parse.specs.declared.unit.Unit.{Unit as Said}
@@ -26,19 +29,28 @@ use Rattle.goasm_run.specs.declared.stop.Stop.TheVariants as stops
 use Rattle.goasm_run.specs.Questions.{told_as}
 use Rattle.goasm_run.specs.UnitsSaid.{ListingStopped, IsUnlisted}
 
+-- where the tokens of sources stand, as statements are read of them
+pub tokens_in : (count : ℕ) (sources : List Tokens) → All (StandIn (IsBelow count)) sources
+    → All (λ tokens. All (placed.TokenIn count) tokens.list) sources
+tokens_in count sources all =
+    All-weaker (StandIn (IsBelow count)) (λ tokens. All (placed.TokenIn count) tokens.list)
+    (λ tokens. All-weaker (λ token. StandsIn (IsBelow count) token.pos) (placed.TokenIn count)
+    (λ token here. record { file = here.file; line = here.line }) tokens.list)
+    sources all
+
 -- a refusal of statements
 
 pub parse_named : (no : ParseNo) (count : ℕ) (names : List (List ℕ)) → placed.NoIn count no → count ≤ length names → HasName names (Parse no)
-parse_named (parses.P1 pos) count names within below = omega (arith, within, below)
-parse_named (parses.P2 pos) count names within below = omega (arith, within, below)
-parse_named (parses.P3 pos) count names within below = omega (arith, within, below)
-parse_named (parses.P4 pos) count names within below = omega (arith, within, below)
-parse_named (parses.P5 pos) count names within below = omega (arith, within, below)
-parse_named (parses.P6 pos) count names within below = omega (arith, within, below)
-parse_named (parses.P7 pos) count names within below = omega (arith, within, below)
-parse_named (parses.P8 pos) count names within below = omega (arith, within, below)
-parse_named (parses.P9 pos) count names within below = omega (arith, within, below)
-parse_named (parses.P10 pos) count names within below = omega (arith, within, below)
+parse_named (parses.P1 pos) count names within below = omega (arith, within.file, below)
+parse_named (parses.P2 pos) count names within below = omega (arith, within.file, below)
+parse_named (parses.P3 pos) count names within below = omega (arith, within.file, below)
+parse_named (parses.P4 pos) count names within below = omega (arith, within.file, below)
+parse_named (parses.P5 pos) count names within below = omega (arith, within.file, below)
+parse_named (parses.P6 pos) count names within below = omega (arith, within.file, below)
+parse_named (parses.P7 pos) count names within below = omega (arith, within.file, below)
+parse_named (parses.P8 pos) count names within below = omega (arith, within.file, below)
+parse_named (parses.P9 pos) count names within below = omega (arith, within.file, below)
+parse_named (parses.P10 pos) count names within below = omega (arith, within.file, below)
 parse_named parses.Memory count names within below = tt
 
 pub parse_caused : (no : ParseNo) → no ≢ parses.Memory → HasCause (Parse no)

@@ -1,8 +1,10 @@
 -- Reading the files of a list, line by line.
 use Rattle.std.proofs.Common.{inl, inr}
 use Rattle.std.specs.Prelude.{◌≡◌, ℕ, List, [], ◌∷◌, ◌+◌, ◌≤◌, Option}
+use Rattle.goasm_base.specs.Lines.{last_line}
 use Rattle.goasm_base.specs.Shelf.{Files, ReadLog}
 use Rattle.goasm_list.specs.Rules.{file_count}
+use Rattle.goasm_list.specs.Sound.{AreWithin}
 use Rattle.goasm_list.specs.declared.line.ListLine.{ListLine}
 use Rattle.goasm_run.specs.declared.part.Part.{Part}
 use Rattle.goasm_run.specs.declared.stop.Stop.{Stop}
@@ -16,6 +18,7 @@ use Rattle.goasm_run.specs.PartsRead.{LeadsTo, NumbersUpTo, LineStopped, PartsSt
 pub record ReadUpTo (shelf : ShelfChange) (now : Option Files) (all rest : List ListLine) (number : ℕ) (parts : List Part) : Type 0 where
   pub leads : (next : List Part → Plan) → LeadsTo shelf.holds (ask_parts 1 all [] next) shelf.reads_before (ask_parts number rest parts next) shelf.reads_now
   pub room : number + file_count rest ≤ 1001
+  pub lines : AreWithin last_line rest
   pub same : now ≡ shelf.holds
   pub unfailed : ReadsAll shelf
   pub numbered : NumbersUpTo number parts

@@ -3,10 +3,11 @@ use Rattle.std.specs.Prelude.{All, Ok, Err, None}
 use Rattle.std.proofs.Common.{◌≡◌, ◌<◌, ◌≤◌, ◌+◌, add-one, arith, length-append, ℕ, suc, List, [], ◌∷◌, ◌++◌, Some, map, length, drop, get_or, drop-cons, append_assoc, append-nil, refl, sym, subst, ap, ◌∙◌}
 use Rattle.std.proofs.lemmas.List.Elements.{All-map}
 use Rattle.std.specs.List.{cons_option}
+use Rattle.goasm_base.specs.Lines.{last_line}
 use Rattle.asm_lex.specs.declared.token.Token.{Token}
 use Rattle.asm_lex.specs.declared.token.Tokens.{Tokens}
 use Rattle.asm_lex.specs.Cut.{tokens_of}
-use Rattle.asm_macro.specs.Places.{AreInTheirFile}
+use Rattle.asm_macro.specs.Places.{AreInTheirFile, StandsIn}
 use Rattle.asm_lex.specs.Form.{HasForm, EndsWithEnd, AreTokens}
 use Rattle.goasm_run.specs.declared.part.Role.{Role}
 use Rattle.goasm_run.specs.declared.part.Role.TheVariants as roles
@@ -48,26 +49,41 @@ formed_on line tokens formed = record {
   ended = ended_on line tokens.list formed.ended;
 }
 
-placed_on : (line file : ℕ) (list : List Token) → All (λ token. token.pos.file ≡ file) list
-    → All (λ token. token.pos.file ≡ file) (map (token_on line) list)
-placed_on line file list all = All-map (λ token. token.pos.file ≡ file) (token_on line) list all
+-- where tokens stand that are lexed, and on another line
 
-pub lexed_on_line : (line files : ℕ) (tokens : Tokens) → IsLexed files tokens → IsLexed files (tokens_on line tokens)
-lexed_on_line line files tokens is = record {
-  formed = formed_on line tokens is.formed;
-  placed = placed_on line tokens.file tokens.list is.placed;
-  below = is.below;
+pub in_their_file : (file : ℕ) (list : List Token) → All (λ token. token.pos.file ≡ file) list → All (λ token. token.pos.line ≤ last_line) list
+    → All (λ token. StandsIn (λ f. f ≡ file) token.pos) list
+in_their_file file list places lines = λ k d inside. record { file = places k d inside; line = lines k d inside }
+
+placed_on : (line file : ℕ) (list : List Token) → line ≤ last_line → All (λ token. token.pos.file ≡ file) list
+    → All (λ token. StandsIn (λ f. f ≡ file) token.pos) (map (token_on line) list)
+placed_on line file list counted all =
+    All-map (λ token. StandsIn (λ f. f ≡ file) token.pos) (token_on line) list (λ k d inside. record { file = all k d inside; line = counted })
+
+on_line : (line files : ℕ) (tokens : Tokens) → line ≤ last_line → AreTokens tokens → All (λ token. token.pos.file ≡ tokens.file) tokens.list
+    → tokens.file < files → IsLexed files (tokens_on line tokens)
+on_line line files tokens counted formed places below = record {
+  formed = formed_on line tokens formed;
+  placed = placed_on line tokens.file tokens.list counted places;
+  below = below;
 }
 
 pub value_lexed : (line file files : ℕ) (bytes : List ℕ) (tokens moved : Tokens)
     → moved ≡ tokens_on line tokens → tokens ≡ tokens_of file bytes → AreTokens tokens
-    → All (λ token. token.pos.file ≡ file) (tokens_of file bytes).list → file < files → IsLexed files moved
-value_lexed line file files bytes tokens moved is same formed placed below =
-    subst (IsLexed files) (sym is) (lexed_on_line line files tokens (record {
-      formed = formed;
-      placed = subst AreInTheirFile (sym same) placed;
-      below = subst (λ t. t.file < files) (sym same) below;
-    }))
+    → All (λ token. token.pos.file ≡ file) (tokens_of file bytes).list → line ≤ last_line → file < files → IsLexed files moved
+value_lexed line file files bytes tokens moved is same formed places counted below =
+    subst (IsLexed files) (sym is) (on_line line files tokens counted formed
+    (subst (λ (t : Tokens). All (λ token. token.pos.file ≡ t.file) t.list) (sym same) places)
+    (subst (λ (t : Tokens). t.file < files) (sym same) below))
+
+pub file_lexed : (file files : ℕ) (bytes : List ℕ) (tokens : Tokens)
+    → tokens ≡ tokens_of file bytes → AreTokens tokens → All (λ token. token.pos.file ≡ file) (tokens_of file bytes).list
+    → All (λ token. token.pos.line ≤ last_line) (tokens_of file bytes).list → file < files → IsLexed files tokens
+file_lexed file files bytes tokens same formed places lines below = record {
+  formed = formed;
+  placed = subst AreInTheirFile (sym same) (in_their_file file (tokens_of file bytes).list places lines);
+  below = subst (λ (t : Tokens). t.file < files) (sym same) below;
+}
 
 -- one part after the other
 

@@ -12,7 +12,8 @@ use Rattle.goasm_run.specs.SourcesLexed.{AreNumbered}
 use Rattle.goasm_run.specs.PartsRead.{LeadsTo}
 use Rattle.goasm_run.specs.Stops.{AnswerStopped, Stopped}
 
--- what holds of the tokens of a build: there aren't too many, and each stands in a file that has a name
+-- what holds of the tokens of a build: there aren't too many, and each stands in a file that has a name, on a line up to the
+-- greatest one
 pub record AreExpanded (files : List (List ℕ)) (sources : List Tokens) : Type 0 where
   pub few : All (λ tokens. length tokens.list ≤ 4000000) sources
   pub placed : All (StandIn (IsBelow (length files))) sources

@@ -1,5 +1,6 @@
 -- How reading the files of a list goes on, line by line.
-use Rattle.std.specs.Prelude.{◌≡◌, ◌⊎◌, ◌<◌, ℕ, suc, List, [], ◌∷◌, length, All, Option}
+use Rattle.std.specs.Prelude.{◌≡◌, ◌⊎◌, ◌<◌, ◌≤◌, ℕ, suc, List, [], ◌∷◌, length, All, Option}
+use Rattle.goasm_base.specs.Lines.{last_line}
 use Rattle.goasm_base.specs.Shelf.{Files, ReadLog}
 use Rattle.goasm_list.specs.declared.line.ListLine.{ListLine}
 use Rattle.goasm_run.specs.declared.part.Part.{Part}
@@ -25,10 +26,11 @@ LineLeads told line number parts before number_now parts_now between =
     (lines : List ListLine) (next : List Part → Plan)
     → LeadsTo told (ask_parts number (line ∷ lines) parts next) before (ask_parts number_now lines parts_now next) between
 
--- the parts that are files have the numbers below this one, from 1
+-- the parts that are files have the numbers below this one, from 1, and each part has a line up to the greatest one
 pub record NumbersUpTo (number : ℕ) (parts : List Part) : Type 0 where
   pub count : number ≡ suc (length (names_of parts))
   pub below : All (λ part. part.file < number) parts
+  pub lines : All (λ part. part.line ≤ last_line) parts
 
 -- reading the file of a line ended so
 abbrev pub LineStopped : ShelfChange → ListLine → ℕ → List Part → Stop → Type 0

@@ -1,5 +1,6 @@
 -- How lexing the parts of a build goes on, part by part.
 use Rattle.std.specs.Prelude.{◌≡◌, ℕ, suc, List, [], ◌∷◌, ◌++◌, ◌+◌, ◌<◌, ◌≤◌, length, All, Option, Some, Result, Err}
+use Rattle.goasm_base.specs.Lines.{last_line}
 use Rattle.asm_lex.specs.declared.token.Tokens.{Tokens}
 use Rattle.asm_lex.specs.Form.{AreTokens}
 use Rattle.asm_macro.specs.Places.{AreInTheirFile}
@@ -11,13 +12,15 @@ use Rattle.goasm_run.specs.declared.part.Part.{Part}
 use Rattle.goasm_run.specs.Limits.{source_limit}
 use Rattle.goasm_run.specs.Sources.{Sources, names_of}
 
--- each part has a number that stands for a name, that of the list or of a part before it or itself; a list names at most
--- 1,000 files
+-- each part has a number that stands for a name, that of the list or of a part before it or itself, and a line up to the
+-- greatest one; a list names at most 1,000 files
 pub record AreNumbered (parts : List Part) : Type 0 where
   pub below : All (λ part. part.file < suc (length (names_of parts))) parts
+  pub lines : All (λ part. part.line ≤ last_line) parts
   pub few : length (names_of parts) ≤ 1000
 
--- tokens that `lex` gives of one of so many files: they have the form that they may be handed on in, and stand in their file
+-- tokens that `lex` gives of one of so many files: they have the form that they may be handed on in, and stand in their file,
+-- on lines up to the greatest one
 pub record IsLexed (files : ℕ) (tokens : Tokens) : Type 0 where
   pub formed : AreTokens tokens
   pub placed : AreInTheirFile tokens

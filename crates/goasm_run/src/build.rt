@@ -3,7 +3,9 @@ ghost use Rattle.asm_directive.specs.LineNames.{line_names_of};
 ghost use Rattle.asm_lex.specs.Form.{AreTokens};
 ghost use Rattle.asm_macro.specs.Builds.{greatest_file, outcome_of};
 ghost use Rattle.asm_macro.specs.Places.{ArePlaced, file_count};
+ghost use Rattle.goasm_base.specs.Lines.{last_line};
 ghost use Rattle.goasm_list.specs.Rules as list;
+ghost use Rattle.goasm_list.specs.Sound.{AreWithin};
 ghost use Rattle.goasm_run.specs.declared.stop.Stop.TheVariants as stops;
 ghost use Rattle.goasm_run.specs.Builds.{over_outcome, over_sources, build_answer};
 ghost use Rattle.goasm_run.specs.BuildsMade.{Makes, ReadsParts};
@@ -64,7 +66,8 @@ fn parts_on<F: Shelf>(
     shelf: &mut F,
     lines: Vec<ListLine>,
 ) -> Result<List<Part>, Stop>
-    requires { list.file_count lines.items ≤ 1000 }
+    requires files { list.file_count lines.items ≤ 1000 }
+    requires lines { AreWithin last_line lines.items }
     ensures { ReadsParts (shelf_change F.holds F.faults F.reads shelf.old shelf.new) (λ next. ask_parts 1 lines.items [] next) result }
 {
     Ok(List::new(read_parts(alloc, shelf, lines)?))

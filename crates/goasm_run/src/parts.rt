@@ -1,5 +1,7 @@
 ghost use Rattle.std.specs.Prelude.{◌≡◌, ◌⊎◌, List, [], ◌∷◌, ◌+◌, ◌≤◌, IfOk, IfErr};
+ghost use Rattle.goasm_base.specs.Lines.{last_line};
 ghost use Rattle.goasm_list.specs.Rules.{file_count};
+ghost use Rattle.goasm_list.specs.Sound.{AreWithin};
 ghost use Rattle.goasm_run.specs.declared.part.Part.{Part};
 ghost use Rattle.goasm_run.specs.Limits.{source_limit};
 ghost use Rattle.goasm_run.specs.Changes.{shelf_change, ReadsAll};
@@ -24,7 +26,8 @@ pub fn read_parts<F: Shelf>(
     shelf: &mut F,
     lines: Vec<ListLine>,
 ) -> Result<Vec<Part>, Stop>
-    requires { file_count lines.items ≤ 1000 }
+    requires files { file_count lines.items ≤ 1000 }
+    requires lines { AreWithin last_line lines.items }
     ensures leads { IfOk result (λ parts. (next : List Part → Plan)
         → LeadsTo (F.holds shelf.old) (ask_parts 1 lines.items [] next) (F.reads shelf.old) (next parts.items) (F.reads shelf.new)) }
     ensures unfailed { IfOk result (λ _. ReadsAll (shelf_change F.holds F.faults F.reads shelf.old shelf.new)) }
@@ -48,7 +51,8 @@ fn read_line<F: Shelf>(
     line: ListLine,
     parts: &mut Vec<Part>,
 ) -> Result<u32, Stop>
-    requires { number + file_count (line ∷ []) ≤ 1001 }
+    requires room { number + file_count (line ∷ []) ≤ 1001 }
+    requires line { line.line ≤ last_line }
     ensures leads { IfOk result (λ next. LineLeads (F.holds shelf.old) line
         number parts.old.items (F.reads shelf.old) next parts.new.items (F.reads shelf.new)) }
     ensures next { IfOk result (λ next. next ≤ number + file_count (line ∷ [])) }

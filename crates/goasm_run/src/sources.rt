@@ -1,5 +1,6 @@
 ghost use Rattle.std.specs.Prelude.{◌≡◌, ◌+◌, ◌<◌, ◌≤◌, ℕ, None, All, length, IfOk, IfErr, OnOk, Ok};
 ghost use Rattle.asm_lex.specs.Cut.{tokens_of};
+ghost use Rattle.goasm_base.specs.Lines.{last_line};
 ghost use Rattle.goasm_run.specs.declared.stop.Stop.TheVariants as stops;
 ghost use Rattle.goasm_run.specs.Sources as spec;
 ghost use Rattle.goasm_run.specs.Sources.{seen, names_of};
@@ -45,6 +46,7 @@ pub fn file_names(alloc: Global, list: &[u8], parts: &[Part]) -> Result<Vec<Name
 #[tactic(auto, unfolding(crate::specs::Sources::sources_of))]
 pub fn lexed<'a>(alloc: Global, names: &[Name], parts: &'a [Part]) -> Result<Sources<'a>, Stop>
     requires named { All (λ part. part.file < length names.now) parts.now }
+    requires lines { All (λ part. part.line ≤ last_line) parts.now }
     requires few { length (names_of parts.now) ≤ 1000 }
     ensures tokens { IfOk result (λ found. spec.lexed names.now parts.now ≡ Ok (seen found)) }
     ensures lexed { IfOk result (λ found. AreLexed (length names.now) (seen found)) }
@@ -70,6 +72,7 @@ fn add<'a>(
     part: &'a Part,
 ) -> Result<(), Stop>
     requires named { part.now.file < length names.now }
+    requires line { part.now.line ≤ last_line }
     requires lexed { AreLexed (length names.now) (seen done.old) }
     ensures tokens { OnOk result (seen done.new ≡ with_part (seen done.old) part.now.role part.now.name (spec.part_tokens part.now)) }
     ensures unrefused { OnOk result (spec.refusal_by part.now.role names.now part.now ≡ None) }
@@ -85,7 +88,8 @@ fn add<'a>(
 }
 
 fn part_tokens<'a>(alloc: Global, names: &[Name], part: &'a Part) -> Result<Tokens<'a>, Stop>
-    requires { part.now.file < length names.now }
+    requires named { part.now.file < length names.now }
+    requires line { part.now.line ≤ last_line }
     ensures tokens { IfOk result (λ tokens. tokens ≡ spec.part_tokens part.now) }
     ensures unrefused { OnOk result (spec.refusal_by part.now.role names.now part.now ≡ None) }
     ensures lexed { IfOk result (IsPart part.now.role (length names.now)) }
@@ -98,7 +102,7 @@ fn part_tokens<'a>(alloc: Global, names: &[Name], part: &'a Part) -> Result<Toke
 }
 
 // The tokens of a file.
-#[tactic(auto, unfolding(crate::specs::Sources::file_refusal), using(crate::proofs::FileLemmas::lex_named, crate::proofs::FileLemmas::lex_caused))]
+#[tactic(auto, unfolding(crate::specs::Sources::file_refusal), using(crate::proofs::SourceLemmas::file_lexed, crate::proofs::FileLemmas::lex_named, crate::proofs::FileLemmas::lex_caused))]
 fn file_tokens<'a>(alloc: Global, names: &[Name], part: &'a Part) -> Result<Tokens<'a>, Stop>
     requires { part.now.file < length names.now }
     ensures tokens { IfOk result (λ tokens. tokens ≡ tokens_of part.now.file part.now.bytes) }
@@ -118,9 +122,10 @@ fn file_tokens<'a>(alloc: Global, names: &[Name], part: &'a Part) -> Result<Toke
 }
 
 // The tokens of a value, on the line of the list where it stands.
-#[tactic(auto, unfolding(crate::specs::Sources::value_refusal), using(crate::proofs::SourceLemmas::lexed_on_line, crate::proofs::FileLemmas::lex_named_on, crate::proofs::FileLemmas::lex_caused_on))]
+#[tactic(auto, unfolding(crate::specs::Sources::value_refusal), using(crate::proofs::FileLemmas::lex_named_on, crate::proofs::FileLemmas::lex_caused_on))]
 fn value_tokens<'a>(alloc: Global, names: &[Name], part: &'a Part) -> Result<Tokens<'a>, Stop>
-    requires { part.now.file < length names.now }
+    requires named { part.now.file < length names.now }
+    requires line { part.now.line ≤ last_line }
     ensures tokens { IfOk result (λ tokens. tokens ≡ spec.tokens_on part.now.line (tokens_of part.now.file part.now.bytes)) }
     ensures unrefused { OnOk result (spec.value_refusal names.now part.now ≡ None) }
     ensures lexed { IfOk result (IsLexed (length names.now)) }

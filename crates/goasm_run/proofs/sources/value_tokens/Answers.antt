@@ -6,4 +6,4 @@ pub returns-in_ok-tokens_on-in-Ok-clause-lexed : goal.returns-in_ok-tokens_on-in
 returns-in_ok-tokens_on-in-Ok-clause-lexed c =
     value_lexed c.args.part.now.line c.args.part.now.file (length c.args.names.now) c.as_slice.result.now
     c.in-Ok.tokens c.in_ok-tokens_on-in-Ok.field-0 c.in_ok-tokens_on-in-Ok.ensures
-    c.in-Ok.ensures.tokens c.in-Ok.ensures.formed c.in-Ok.ensures.places c.requires
+    c.in-Ok.ensures.tokens c.in-Ok.ensures.formed c.in-Ok.ensures.places c.requires.line c.requires.named

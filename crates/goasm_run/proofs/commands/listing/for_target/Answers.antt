@@ -1,5 +1,5 @@
 use Rattle.std.proofs.Common.{length, arith}
-use Rattle.goasm_run.proofs.ListingLemmas.{parse_named}
+use Rattle.goasm_run.proofs.ListingLemmas.{tokens_in, parse_named}
 use Rattle.goasm_run.proofs.commands.listing.for_target.Goals as goal
 
 pub of_units-requires-clause-valid : goal.of_units-requires-clause-valid
@@ -7,9 +7,11 @@ of_units-requires-clause-valid g c = rw c.as_slice.ensures c.in-Ok.ensures.valid
 
 pub of_units-requires-clause-placed : goal.of_units-requires-clause-placed
 of_units-requires-clause-placed g c =
-    rw c.as_slice.ensures (c.in-Ok.ensures.placed (length c.args.files.now) c.requires.expanded.placed)
+    let count = length c.args.files.now in
+    rw c.as_slice.ensures (c.in-Ok.ensures.placed count (tokens_in count c.args.sources.now c.requires.expanded.placed))
 
 pub unparsed-requires : goal.unparsed-requires
 unparsed-requires g c =
     let count = length c.args.files.now in
-    parse_named c.in-Err.no count c.args.files.now (c.in-Err.ensures.placed count c.requires.expanded.placed) (omega arith)
+    parse_named c.in-Err.no count c.args.files.now
+    (c.in-Err.ensures.placed count (tokens_in count c.args.sources.now c.requires.expanded.placed)) (omega arith)
