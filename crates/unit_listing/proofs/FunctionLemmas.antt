@@ -28,10 +28,12 @@ use Rattle.obj_rewrite.specs.Laws.{IsSettled}
 use Rattle.obj_rewrite.specs.Rewriting.{rules_of}
 use Rattle.obj_rewrite.proofs.BodyLemmas.{FrameLaws, PickLaws, is_body}
 use Rattle.obj_rewrite.proofs.SettledLemmas.{never_refused_at, one_body, one_refusal}
+use Rattle.unit_listing.specs.declared.laid.Laid.{Laid}
 use Rattle.unit_listing.specs.declared.listing_no.ListingNo.{ListingNo}
 use Rattle.unit_listing.specs.declared.listing_no.ListingNo.TheVariants.{RW1, Select, B1, Memory}
 use Rattle.unit_listing.specs.Joined.{AreJoined}
 use Rattle.unit_listing.specs.Kit.{Kit, IsRewritten, branches, frame_of, guard_of, rules_for}
+use Rattle.unit_listing.specs.Laid.{IsLaid, IsSameLaid}
 use Rattle.unit_listing.specs.Lines.{IsLine}
 use Rattle.unit_listing.specs.Listing.{IsFirstRefusal, IsFunctionText, IsRefused, IsText, IsUnitRefused, IsUnitText, header}
 use Rattle.unit_listing.proofs.FrameLemmas.{frame_fits}
@@ -64,12 +66,23 @@ one_sizes p one other a b =
     let whole : one.length ≡ other.length = a.whole ∙ ap (λ forms. place p (at forms) p.count) forms ∙ sym b.whole in
     same_sizes one.forms one.places other.forms other.places one.length other.length forms places whole
 
+abbrev body_with : {Instr : Type 0} → FrameShape → List (Line Instr) → Body Instr
+body_with frame code = record { frame = frame; code = code }
+
+same_body : {Instr : Type 0} (frame : FrameShape) (code : List (Line Instr)) (frame' : FrameShape) (code' : List (Line Instr))
+    → frame ≡ frame' → code ≡ code' → body_with frame code ≡ body_with frame' code'
+same_body frame code frame' code' one two = cc
+
 module _ {Instr : Type 0} (kit : Kit Instr) (laws : KitLaws kit) where
   module _ (function : Function) where
+    same_parts : (one other : Body Instr) → IsRewritten kit function one → IsRewritten kit function other
+        → (one.frame ≡ other.frame) × (one.code ≡ other.code)
+    same_parts one other a b =
+        one_body (rules_for kit function) (laws.settled (frame_of kit function)) function (frame_of kit function) (guard_of kit function)
+        (kit.entry (frame_of kit function)) one other a b
+
     one_code : (one other : Body Instr) → IsRewritten kit function one → IsRewritten kit function other → one.code ≡ other.code
-    one_code one other a b =
-        (one_body (rules_for kit function) (laws.settled (frame_of kit function)) function (frame_of kit function) (guard_of kit function)
-        (kit.entry (frame_of kit function)) one other a b).1
+    one_code one other a b = (same_parts one other a b).1
 
     pub one_function : (symbols : List Symbol) (text other : List ℕ) → IsFunctionText kit symbols function text
         → IsFunctionText kit symbols function other → text ≡ other
@@ -83,6 +96,16 @@ module _ {Instr : Type 0} (kit : Kit Instr) (laws : KitLaws kit) where
         let lines : a.lines ≡ b.lines = one_joined (IsLine kit symbols function.flags guard a.body.code a.sizes)
         (one_line kit symbols function.flags guard a.body.code a.sizes) (length a.body.code) a.lines b.lines a.joined joined in
         a.whole ∙ ap (λ lines. header symbols function ++ lines) lines ∙ sym b.whole
+
+    pub one_answer : (laid other : Laid Instr) → IsLaid kit function laid → IsLaid kit function other → IsSameLaid laid other
+    one_answer laid other a b =
+        let parts = same_parts laid.body other.body a.rewritten b.rewritten in
+        let sized = subst (λ (code : List (Line Instr)). IsSized (branches kit function code) other.sizes) (sym parts.1) b.sized in
+        record {
+          flags = a.flags ∙ sym b.flags;
+          body = same_body laid.body.frame laid.body.code other.body.frame other.body.code parts.0 parts.1;
+          sizes = one_sizes (branches kit function laid.body.code) laid.sizes other.sizes a.sized sized;
+        }
 
     module _ (symbols : ℕ) (valid : IsValidFunction symbols function) where
       lawful : (body : Body Instr) → IsRewritten kit function body → IsLawful (branches kit function body.code)
@@ -114,15 +137,28 @@ module _ {Instr : Type 0} (kit : Kit Instr) (laws : KitLaws kit) where
           never_refused_at (rules_for kit function) (laws.settled (frame_of kit function)) function (frame_of kit function)
           (guard_of kit function) (kit.entry (frame_of kit function)) body pos why rewritten refused
 
+      never_lost : (body other : Body Instr) (sizes : Sizes) (pos : Pos) (distance : ℕ) → IsRewritten kit function body
+          → IsSized (branches kit function body.code) sizes → IsRewritten kit function other
+          → IsOutOfReach (branches kit function other.code) other.code pos distance → ⊥
+      never_lost body other sizes pos distance rewritten sized again out =
+          let lost = out_in body other pos distance rewritten again out in
+          not_both (branches kit function body.code) (lawful body rewritten) (at sizes.forms) lost.form sized.least
+          lost.least sized.reaches lost.line distance lost.lost
+
       pub never_function : (names : List Symbol) (text : List ℕ) (refusal : ListingNo) → IsFunctionText kit names function text
           → IsRefused kit function refusal → ⊥
       never_function names text (RW1 pos total) has refused = not_larger total refused.1 refused.2 has.rewritten.most
       never_function names text (Select pos why) has refused = never_select has.body pos why has.rewritten refused
       never_function names text (B1 pos distance) has (body, rewritten, out) =
-          let lost = out_in has.body body pos distance has.rewritten rewritten out in
-          not_both (branches kit function has.body.code) (lawful has.body has.rewritten) (at has.sizes.forms) lost.form has.sized.least
-          lost.least has.sized.reaches lost.line distance lost.lost
+          never_lost has.body body has.sizes pos distance has.rewritten has.sized rewritten out
       never_function names text Memory has refused = refused
+
+      -- a function that is laid out isn't refused
+      pub never_answer : (laid : Laid Instr) (refusal : ListingNo) → IsLaid kit function laid → IsRefused kit function refusal → ⊥
+      never_answer laid (RW1 pos total) is refused = not_larger total refused.1 refused.2 is.rewritten.most
+      never_answer laid (Select pos why) is refused = never_select laid.body pos why is.rewritten refused
+      never_answer laid (B1 pos distance) is (body, rewritten, out) = never_lost laid.body body laid.sizes pos distance is.rewritten is.sized rewritten out
+      never_answer laid Memory is refused = refused
 
       same_select : (pos pos' : Pos) (why why' : SelectNo) → pos ≡ pos' → why ≡ why' → Select pos why ≡ Select pos' why'
       same_select pos pos' why why' one two = cc
@@ -155,6 +191,18 @@ module _ {Instr : Type 0} (kit : Kit Instr) (laws : KitLaws kit) where
           out.least lost.least out.lost lost.lost in
           let item : out.item ≡ lost.item = same_item (sym out.here ∙ ap (slice_get body.code) same.0 ∙ lost.here) in
           same_reach pos pos' far far' (sym out.at ∙ ap (λ (line : Line Instr). line.pos) item ∙ lost.at) same.1
+
+  pub one_laid : (function : Function) (laid other : Laid Instr) → IsLaid kit function laid → IsLaid kit function other
+      → IsSameLaid laid other
+  one_laid function = one_answer function
+
+  pub never_laid : (symbols : ℕ) (function : Function) (laid : Laid Instr) (refusal : ListingNo) → IsValidFunction symbols function
+      → IsLaid kit function laid → IsRefused kit function refusal → ⊥
+  never_laid symbols function laid refusal valid = never_answer function symbols valid laid refusal
+
+  pub first_laid : (symbols : ℕ) (function : Function) (refusal other : ListingNo) → IsValidFunction symbols function
+      → IsRefused kit function refusal → IsRefused kit function other → refusal ≡ other
+  first_laid symbols function refusal other valid = one_refused function symbols valid refusal other
 
   -- Units
 

@@ -1,4 +1,4 @@
--- The places of a refusal are those of functions and statements.
+-- The places of a laid function's lines, and of a refusal, are those of functions and statements.
 use Rattle.std.proofs.Common.{◌≡◌, ◌<◌, ◌+◌, ℕ, ℤ, ◌||◌, length, Bool, true, false, List, [], ◌∷◌, ◌++◌, map, Option, Some, None, Err, sym, subst, refl, inl, inr, arith, if◌then◌else◌}
 use Rattle.std.specs.Prelude.{◌≢◌, All}
 use Rattle.std.specs.List.{slice_get}
@@ -36,8 +36,8 @@ jump_in count function true here = All-cons (StatementIn count) (self_jump funct
 jump_in count function false here = All-nil (StatementIn count)
 
 module _ {Instr : Type 0} (count : ℕ) where
-  abbrev LineIn : Line Instr → Type 0
-  LineIn line = line.pos.file < count
+  abbrev pub LineIn : Line Instr → Type 0
+  LineIn line = IsIn count line.pos
 
   abbrev CodeIn : Code Instr → Type 0
   CodeIn code = All LineIn code.lines
@@ -47,12 +47,12 @@ module _ {Instr : Type 0} (count : ℕ) where
   either false one other a b = b
 
   module _ (change : List Instr → List ℕ → List Bool → ℤ) where
-    added_in : (code : Code Instr) (pick : Picked Instr) (place : Pos) (stmt : Option ℕ) → CodeIn code → place.file < count
+    added_in : (code : Code Instr) (pick : Picked Instr) (place : Pos) (stmt : Option ℕ) → CodeIn code → IsIn count place
         → CodeIn (added change code pick place stmt)
     unfolding added
     added_in code pick place stmt all here = All-push LineIn code.lines (line_of pick place code.depth stmt) all here
 
-    all_added_in : (picks : List (Picked Instr)) (code : Code Instr) (place : Pos) (stmt : Option ℕ) → CodeIn code → place.file < count
+    all_added_in : (picks : List (Picked Instr)) (code : Code Instr) (place : Pos) (stmt : Option ℕ) → CodeIn code → IsIn count place
         → CodeIn (all_added change code picks place stmt)
     all_added_in [] code place stmt all here = all
     all_added_in (pick ∷ picks) code place stmt all here =
@@ -63,7 +63,7 @@ module _ {Instr : Type 0} (count : ℕ) where
         → Rewrites rules goals stmts number before after → CodeIn after
     rewrites_in [] number before after places all same = subst CodeIn (sym same) all
     rewrites_in (stmt ∷ stmts) number before after places all (between, (picks, becomes, same), rest) =
-        let here : stmt.pos.file < count = (All-head (StatementIn count) stmt stmts places).file in
+        let here : IsIn count stmt.pos = All-head (StatementIn count) stmt stmts places in
         let code = all_added rules.change (record before { awaited = before.awaited || goals number }) picks stmt.pos (Some number) in
         let inside : CodeIn code = all_added_in rules.change picks (record before { awaited = before.awaited || goals number }) stmt.pos (Some number) all here in
         rewrites_in stmts (number + 1) between after (All-tail (StatementIn count) stmt stmts places)
@@ -77,7 +77,7 @@ module _ {Instr : Type 0} (count : ℕ) where
     refuses_in (stmt ∷ stmts) number before place why places (inr (between, step, rest)) =
         refuses_in stmts (number + 1) between place why (All-tail (StatementIn count) stmt stmts places) rest
 
-  block_in : (place : Pos) (picks : List (Picked Instr)) → place.file < count → All LineIn (map (λ pick. line_of pick place 0 None) picks)
+  block_in : (place : Pos) (picks : List (Picked Instr)) → IsIn count place → All LineIn (map (λ pick. line_of pick place 0 None) picks)
   block_in place [] here = All-nil LineIn
   block_in place (pick ∷ picks) here =
       All-cons LineIn (line_of pick place 0 None) (map (λ pick. line_of pick place 0 None) picks) here (block_in place picks here)
@@ -88,9 +88,10 @@ module _ {Instr : Type 0} (kit : Kit Instr) (count : ℕ) (function : Function) 
   opened_in =
       all_added_in count (rules_for kit function).change
       (opening (guard_of kit function) (kit.entry (frame_of kit function)) (is_checked function (frame_of kit function)))
-      (code_of [] [] 0 false) function.pos None (All-nil (LineIn count)) places.pos.file
+      (code_of [] [] 0 false) function.pos None (All-nil (LineIn count)) places.pos
 
-  body_in : (body : Body Instr) → IsRewritten kit function body → All (LineIn count) body.code
+  -- each line of its body stands in one of the files, on a line that a source can have
+  pub body_in : (body : Body Instr) → IsRewritten kit function body → All (LineIn count) body.code
   body_in body rewritten =
       let rules = rules_for kit function in
       let written = rewritten.lines.written in
@@ -102,7 +103,7 @@ module _ {Instr : Type 0} (kit : Kit Instr) (count : ℕ) (function : Function) 
       let block = closing (is_checked function (frame_of kit function)) (guard_of kit function) in
       subst (All (LineIn count)) (sym rewritten.lines.whole)
       (All-append (LineIn count) rewritten.lines.code.lines (map (λ pick. line_of pick function.pos 0 None) block) code
-      (block_in count function.pos block places.pos.file))
+      (block_in count function.pos block places.pos))
 
   unwritten_in : (place : Pos) (why : SelectNo)
       → IsUnwritten (rules_for kit function) function (opened (rules_for kit function) function (frame_of kit function) (guard_of kit function)
@@ -120,7 +121,7 @@ module _ {Instr : Type 0} (kit : Kit Instr) (count : ℕ) (function : Function) 
   refused_in (Select place why) refused = unwritten_in place why refused.1
   refused_in (B1 place distance) (body, rewritten, out) =
       subst (λ (place : Pos). place.file < count) out.at
-      (of_item (LineIn count) body.code out.line out.item (body_in body rewritten) out.here)
+      (of_item (LineIn count) body.code out.line out.item (body_in body rewritten) out.here).file
   refused_in Memory refused = tt
 
 module _ {Instr : Type 0} (kit : Kit Instr) (count : ℕ) (units : List Said) where

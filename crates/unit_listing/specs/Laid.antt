@@ -18,6 +18,13 @@ pub record IsLaid {Instr : Type 0} (kit : Kit Instr) (function : Function) (laid
   pub sized : IsSized (branches kit function laid.body.code) laid.sizes
   pub goals : HasGoals (guard_of kit function) laid.body.code laid.goals
 
+-- The flags, the instructions and their places are the same. The table of the lines that references lead to isn't compared: it's a
+-- means to find them
+pub record IsSameLaid {Instr : Type 0} (one other : Laid Instr) : Type 0 where
+  pub flags : one.flags ≡ other.flags
+  pub body : one.body ≡ other.body
+  pub sizes : one.sizes ≡ other.sizes
+
 -- what is relied on where its lines are shown: the table of its lines is right, and each line has a place and a form
 pub record IsTold {Instr : Type 0} (kit : Kit Instr) (laid : Laid Instr) : Type 0 where
   pub goals : HasGoals (kit.check laid.body.frame) laid.body.code laid.goals

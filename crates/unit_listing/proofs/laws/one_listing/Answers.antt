@@ -3,7 +3,7 @@ use Rattle.branch_size.specs.Lawful.{quantum_kinds}
 use Rattle.obj_rewrite.proofs.BodyLemmas.{frame_laws, pick_laws}
 use Rattle.obj_rewrite.proofs.SettledLemmas.{settled}
 use Rattle.unit_listing.specs.Kit.{kit_of}
-use Rattle.unit_listing.proofs.FunctionLemmas.{KitLaws, first_listing, never_listing, one_listing}
+use Rattle.unit_listing.proofs.FunctionLemmas.{KitLaws, first_laid, first_listing, never_laid, never_listing, one_laid, one_listing}
 use Rattle.unit_listing.proofs.laws.one_listing.Given as given
 use Rattle.unit_listing.proofs.laws.one_listing.Goals as goal
 
@@ -41,4 +41,16 @@ returns-clause-never g c = never_listing (kit_of g.T.Processor.instructions g.T.
 
 pub returns-clause-first : goal.returns-clause-first
 returns-clause-first g c = first_listing (kit_of g.T.Processor.instructions g.T.Processor.fits g.T.Processor.MACHINE g.T.Processor.QUANTUM g.T.Processor.SHAPE g.T.Target.selection
+    g.T.Target.aiming g.T.Target.entry g.T.Target.check g.T.Target.begins) (laws g)
+
+pub returns-clause-one_laid : goal.returns-clause-one_laid
+returns-clause-one_laid g c = one_laid (kit_of g.T.Processor.instructions g.T.Processor.fits g.T.Processor.MACHINE g.T.Processor.QUANTUM g.T.Processor.SHAPE g.T.Target.selection
+    g.T.Target.aiming g.T.Target.entry g.T.Target.check g.T.Target.begins) (laws g)
+
+pub returns-clause-never_laid : goal.returns-clause-never_laid
+returns-clause-never_laid g c = never_laid (kit_of g.T.Processor.instructions g.T.Processor.fits g.T.Processor.MACHINE g.T.Processor.QUANTUM g.T.Processor.SHAPE g.T.Target.selection
+    g.T.Target.aiming g.T.Target.entry g.T.Target.check g.T.Target.begins) (laws g)
+
+pub returns-clause-first_laid : goal.returns-clause-first_laid
+returns-clause-first_laid g c = first_laid (kit_of g.T.Processor.instructions g.T.Processor.fits g.T.Processor.MACHINE g.T.Processor.QUANTUM g.T.Processor.SHAPE g.T.Target.selection
     g.T.Target.aiming g.T.Target.entry g.T.Target.check g.T.Target.begins) (laws g)
