@@ -7,7 +7,7 @@ use Rattle.asm_target.specs.declared.refer.To.{To}
 use Rattle.asm_target.specs.Aiming.{KeepLengths, bytes_of}
 use Rattle.unit_listing.specs.Kit.{Kit}
 use Rattle.unit_listing.specs.Lines.{refer_in}
-use Rattle.link_code.specs.Code.{IsAimed, IsBeyond, IsPart}
+use Rattle.link_code.specs.Code.{IsAimed, IsBeyond, IsOnly, IsPart}
 
 module _ {Instr : Type 0} (kit : Kit Instr) (goals : To → Option ℕ) where
   -- what stands for a listed instruction is listed, and has as many bytes
@@ -23,13 +23,15 @@ module _ {Instr : Type 0} (kit : Kit Instr) (goals : To → Option ℕ) where
   -- one of a form
   pub part : (refer found : Option Refer) (back start at : ℕ) (form : List Instr) (number : ℕ) (i j : Instr)
       → slice_get form number ≡ Some i → at ≡ start + bytes_of kit.set (take number form) → found ≡ refer_in form number refer
-      → IsAimed kit goals found back at i j → IsPart kit goals refer back start form number (j ∷ [])
-  part refer found back start at form number i j here there goes is = (
+      → IsAimed kit goals found back at i j → IsOnly kit goals found back at i j → IsPart kit goals refer back start form number (j ∷ [])
+  part refer found back start at form number i j here there goes is only = (
     i,
     here,
     j,
     subst (λ at. IsAimed kit goals (refer_in form number refer) back at i j) there
         (subst (λ found. IsAimed kit goals found back at i j) goes is),
+    subst (λ at. IsOnly kit goals (refer_in form number refer) back at i j) there
+        (subst (λ found. IsOnly kit goals found back at i j) goes only),
     refl,
   )
 

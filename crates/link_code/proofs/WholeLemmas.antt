@@ -26,7 +26,7 @@ module _ {Instr : Type 0} (kit : Kit Instr) where
   parts_long : (goals : To → Option ℕ) (refer : Option Refer) (back start : ℕ) (form : List Instr) (n : ℕ) (code : List Instr)
       → AreJoined (IsPart kit goals refer back start form) n code → length code ≡ n
   parts_long goals refer back start form zero code none = ap length none
-  parts_long goals refer back start form (suc n) code (before, last, are, (i, here, j, aimed, one), whole) =
+  parts_long goals refer back start form (suc n) code (before, last, are, (i, here, j, aimed, only, one), whole) =
       let rest = parts_long goals refer back start form n before are in
       let single : length last ≡ 1 = ap length one in
       ap length whole ∙ length-append before last ∙ omega (arith, rest, single)

@@ -40,11 +40,17 @@ module _ {Instr : Type 0} (kit : Kit Instr) where
     IsAimed (Some refer) back at i j =
         (goal : ℕ) × (goals refer.to ≡ Some goal) × Aims kit.set kit.fits kit.aiming i refer.part (seen_from refer.part back at) goal j
 
-    -- the instruction of this number in the form of a line that begins at `at`: the last one holds what the line refers to
+    -- no other instruction than j stands for i there
+    abbrev pub IsOnly : Option Refer → ℕ → ℕ → Instr → Instr → Type 0
+    IsOnly refer back at i j = (k : Instr) → IsAimed refer back at i k → k ≡ j
+
+    -- The instruction of this number in the form of a line that begins at `at`: the last one holds what the line refers to. It's the
+    -- only one that can stand there
     abbrev pub IsPart : Option Refer → ℕ → ℕ → List Instr → ℕ → List Instr → Type 0
     IsPart refer back at form number code =
         (i : Instr) × (slice_get form number ≡ Some i) × (j : Instr)
-        × IsAimed (refer_in form number refer) back (at + bytes_of kit.set (take number form)) i j × (code ≡ j ∷ [])
+        × IsAimed (refer_in form number refer) back (at + bytes_of kit.set (take number form)) i j
+        × IsOnly (refer_in form number refer) back (at + bytes_of kit.set (take number form)) i j × (code ≡ j ∷ [])
 
     -- all instructions of the form, one behind the other
     abbrev pub AreParts : Option Refer → ℕ → ℕ → List Instr → List Instr → Type 0

@@ -2,7 +2,7 @@ ghost use Rattle.std.specs.Prelude.{◌≡◌, ◌^◌, ◌<◌, IfSome, None};
 ghost use Rattle.machine_effect.specs.Numbers.{moved_by};
 ghost use Rattle.branch_size.specs.Tables.{HasGoals};
 ghost use Rattle.unit_listing.specs.Kit.{kit_of};
-ghost use Rattle.link_code.specs.Code.{IsAimed};
+ghost use Rattle.link_code.specs.Code.{IsAimed, IsOnly};
 ghost use Rattle.link_code.specs.Goals as goals;
 
 use crate::site::Site;
@@ -50,6 +50,8 @@ pub fn aimed<T: Target>(
     requires low { site.now.entry < 2 ^ 63 }
     ensures some { let kit = kit_of T.instructions T.fits T.MACHINE T.QUANTUM T.SHAPE T.selection T.aiming T.entry T.check T.begins in
         IfSome result (IsAimed kit (goals.goal_of kit site.now laid.now) refer back at instr.now) }
+    ensures only { let kit = kit_of T.instructions T.fits T.MACHINE T.QUANTUM T.SHAPE T.selection T.aiming T.entry T.check T.begins in
+        IfSome result (IsOnly kit (goals.goal_of kit site.now laid.now) refer back at instr.now) }
     ensures none { let kit = kit_of T.instructions T.fits T.MACHINE T.QUANTUM T.SHAPE T.selection T.aiming T.entry T.check T.begins in
         result ≡ None → (j : T.Instr) → ¬ IsAimed kit (goals.goal_of kit site.now laid.now) refer back at instr.now j }
 {

@@ -99,7 +99,7 @@ module _ {Instr : Type 0} (kit : Kit Instr) where
     parts_long : (goals : To → Option ℕ) (refer : Option Refer) (back start : ℕ) (form : List Instr) (n : ℕ) (code : List Instr)
         → AreJoined (IsPart kit goals refer back start form) n code → length code ≡ n
     parts_long goals refer back start form zero code none = ap length none
-    parts_long goals refer back start form (suc n) code (before, last, are, (i, here, j, aimed, one), whole) =
+    parts_long goals refer back start form (suc n) code (before, last, are, (i, here, j, aimed, only, one), whole) =
         let rest = parts_long goals refer back start form n before are in
         let single : length last ≡ 1 = ap length one in
         ap length whole ∙ length-append before last ∙ omega (arith, rest, single)
@@ -108,7 +108,7 @@ module _ {Instr : Type 0} (kit : Kit Instr) where
         → All kit.fits form → AreJoined (IsPart kit goals refer back start form) n code
         → bytes_of kit.set code ≡ bytes_of kit.set (take n form)
     parts_bytes goals refer back start form zero code fit none = ap (bytes_of kit.set) none
-    parts_bytes goals refer back start form (suc n) code fit (before, last, are, (i, here, j, aimed, one), whole) =
+    parts_bytes goals refer back start form (suc n) code fit (before, last, are, (i, here, j, aimed, only, one), whole) =
         let rest = parts_bytes goals refer back start form n before fit are in
         let same = aimed_long kit goals _ _ _ i j keeps (of_item kit.fits form n i fit here) aimed in
         ap (bytes_of kit.set) whole ∙ bytes_append kit.set before last ∙ ap (λ code. bytes_of kit.set before + bytes_of kit.set code) one

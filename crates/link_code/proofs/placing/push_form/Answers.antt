@@ -42,7 +42,7 @@ loop-number-preserved g c =
           c.push_instr.new.placed.items c.loop-number.invariant.added
           (one_added set fits (Is number) at c.len-len.result (at + c.from-at.result) j c.loop-number.placed.items c.push_instr.new.placed.items
           (part kit goals spot.refer refer spot.back spot.at at form number i j c.get-instr.ensures c.loop-number.invariant.there goes
-          c.in-Some.ensures.some)
+          c.in-Some.ensures.some c.in-Some.ensures.only)
           (aimed_fits kit goals refer spot.back at i j c.spell.ensures.fits c.in-Some.ensures.some) long past c.in_ok-push_instr-in-Some.ensures);
     }
 
