@@ -7,3 +7,4 @@ mod NumberingLemmas
 mod UsedLemmas
 mod TellLemmas
 mod ReadyLemmas
+mod LinkedLemmas

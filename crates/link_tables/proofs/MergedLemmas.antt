@@ -1,5 +1,5 @@
 -- Equal neighbours are one run.
-use Rattle.std.proofs.Common.{◌≡◌, ◌≢◌, ◌⊎◌, inl, inr, ℕ, zero, suc, ℤ, pos, negsuc, ◌-ℤ◌, ◌<ℤ◌, ◌+◌, ◌-◌, ◌%◌, ◌^◌, ◌<◌, ◌≤◌, ◌==◌, IsTrue, true, false, List, [], ◌∷◌, ◌++◌, length, take, drop, get_or, All, refl, sym, ap, ◌∙◌, arith, append_assoc, add-one, length-append}
+use Rattle.std.proofs.Common.{◌≡◌, ◌≢◌, inl, inr, ℕ, zero, suc, ℤ, pos, negsuc, ◌-ℤ◌, ◌<ℤ◌, ◌+◌, ◌-◌, ◌%◌, ◌^◌, ◌<◌, ◌≤◌, ◌==◌, IsTrue, true, false, List, [], ◌∷◌, ◌++◌, length, take, drop, get_or, All, refl, sym, ap, ◌∙◌, arith, append_assoc, add-one, length-append}
 use Rattle.std.proofs.lemmas.Bool.{le-ltb, lt-ltb, cases_Bool}
 use Rattle.std.proofs.lemmas.Bool.Decides.{nat_tests}
 use Rattle.std.proofs.lemmas.Int.{ints}
@@ -39,7 +39,7 @@ merged_all first others index last runs past merged = rw (drop_all index others 
 
 small_at : (from : ℕ) (stretch : Stretch) (others : List Stretch) → Follow from (stretch ∷ others)
     → (k : ℕ) (d : Stretch) → k < length (stretch ∷ others) → (get_or (stretch ∷ others) k d).value < 2 ^ 31
-small_at from stretch others follow zero d below = let value : stretch.value ≤ 2 ^ 31 - 2 = follow.0.value in omega arith
+small_at from stretch others follow zero d below = follow.0.value
 small_at from stretch [] follow (suc k) d below = absurd (omega arith)
 small_at from stretch (next ∷ others) follow (suc k) d below = small_at stretch.end next others follow.1 k d (omega arith)
 
@@ -54,12 +54,12 @@ tail_is stretch others =
 
 pub small_first : (stretches : List Stretch) (d : Stretch) → AreStretches stretches → (get_or stretches 0 d).value < 2 ^ 31
 small_first [] d are = absurd are
-small_first (stretch ∷ others) d are = let value : stretch.value ≤ 2 ^ 31 - 2 = are.0.value in omega arith
+small_first (stretch ∷ others) d are = are.0.value
 
 pub small_others : (stretches : List Stretch) → AreStretches stretches
     → All (λ stretch. stretch.value < 2 ^ 31) (take (length stretches - 1) (drop 1 stretches))
 small_others [] are = absurd are
-small_others (stretch ∷ others) are = rw (tail_is stretch others) (small_follow stretch.end others are.1)
+small_others (stretch ∷ others) are = rw (tail_is stretch others) (small_follow stretch.end others are.2)
 
 pub merged_behind : (stretches : List Stretch) (d : Stretch) → AreStretches stretches
     → merged_from (get_or stretches 0 d) (take (length stretches - 1) (drop 1 stretches)) ≡ merged stretches
@@ -71,16 +71,11 @@ fits : (z : ℤ) → z <ℤ pos (2 ^ 31) → negsuc (2 ^ 31) <ℤ z → IsTrue (
 fits (pos n) below above = let small : n < 2 ^ 31 = omega (arith, ints) in rw (lt-ltb n (2 ^ 31) small) refl
 fits (negsuc n) below above = let small : n < 2 ^ 31 = omega (arith, ints) in rw (lt-ltb n (2 ^ 31) small) refl
 
--- the value of a run before others: a number, or that of no run
-abbrev IsBefore : ℤ → Type 0
-IsBefore value = (value ≡ negsuc 0) ⊎ ((n : ℕ) × (value ≡ pos n) × (n < 2 ^ 31))
+first_fits : (n : ℕ) → n ≤ 2 ^ 31 - 2 → IsTrue (fits_i32 (pos n -ℤ negsuc 0))
+first_fits n small = fits (pos n -ℤ negsuc 0) (omega (arith, ints)) (omega (arith, ints))
 
-change_fits : (value : ℤ) (n : ℕ) → IsBefore value → n ≤ 2 ^ 31 - 2 → IsTrue (fits_i32 (pos n -ℤ value))
-change_fits value n (inl is) small = fits (pos n -ℤ value) (omega (arith, ints)) (omega (arith, ints))
-change_fits value n (inr one) small =
-    let is : value ≡ pos one.0 = one.1 in
-    let below : one.0 < 2 ^ 31 = one.2 in
-    fits (pos n -ℤ value) (omega (arith, ints)) (omega (arith, ints))
+next_fits : (m n : ℕ) → m < 2 ^ 31 → n < 2 ^ 31 → IsTrue (fits_i32 (pos n -ℤ pos m))
+next_fits m n low small = fits (pos n -ℤ pos m) (omega (arith, ints)) (omega (arith, ints))
 
 whole_between : (quantum a b : ℕ) → IsQuantum quantum → a % quantum ≡ 0 → b % quantum ≡ 0 → (a - b) % quantum ≡ 0
 whole_between quantum a b (inl is) one two = rw is (omega arith)
@@ -92,20 +87,19 @@ whole_between quantum a b (inr (inr is)) one two =
 -- a run stands before a stretch that begins at a place
 record Before (quantum : ℕ) (before : Run) (from : ℕ) (last : Stretch) : Type 0 where
   whole : before.end % quantum ≡ 0
-  value : IsBefore before.value
+  change : IsTrue (fits_i32 (pos last.value -ℤ before.value))
   other : pos last.value ≢ before.value
   up : before.end ≤ from
 
 can_follow : (quantum : ℕ) (before : Run) (from : ℕ) (last : Stretch) → IsQuantum quantum → Before quantum before from last
     → IsStretch from last → IsWhole quantum last → CanFollow quantum before (run_of last)
 can_follow quantum before from last counts stands is whole =
-    let small : last.value < 2 ^ 31 = (let value : last.value ≤ 2 ^ 31 - 2 = is.value in omega arith) in
     record {
       longer = (let up : before.end ≤ from = stands.up in let longer : from < last.end = is.longer in omega arith);
       short = is.short;
       whole = whole_between quantum last.end before.end counts whole stands.whole;
-      value = rw (lt-ltb last.value (2 ^ 31) small) refl;
-      change = change_fits before.value last.value stands.value is.value;
+      value = rw (lt-ltb last.value (2 ^ 31) is.value) refl;
+      change = stands.change;
     }
 
 other_value : (one two : Stretch) → (one.value == two.value) ≡ false → pos two.value ≢ pos one.value
@@ -131,19 +125,18 @@ can_stand quantum before from last (next ∷ others) counts stands is follow all
           = can_stand quantum before last.end next others counts
           (record {
             whole = stands.whole;
-            value = stands.value;
+            change = rw (← value) stands.change;
             other = rw (← value) stands.other;
             up = (let up : before.end ≤ from = stands.up in let longer : from < last.end = is.longer in omega arith);
           })
           follow.0 follow.1 (all_others quantum last (next ∷ others) all) in
           rw same rest
       | inr differ ↦
-          let small : last.value < 2 ^ 31 = (let value : last.value ≤ 2 ^ 31 - 2 = is.value in omega arith) in
           let rest : CanStand quantum (run_of last) (merged_from next others)
           = can_stand quantum (run_of last) last.end next others counts
           (record {
             whole = all 0 last (omega arith);
-            value = inr (last.value, refl, small);
+            change = next_fits last.value next.value is.value follow.0.value;
             other = other_value last next differ;
             up = omega arith;
           })
@@ -173,7 +166,7 @@ merged_runs quantum [] are counts all = absurd are
 merged_runs quantum (stretch ∷ others) are counts all =
     stand_runs quantum (merged_from stretch others) (some_merged stretch others)
     (can_stand quantum no_run 0 stretch others counts
-    (record { whole = zero_whole quantum counts; value = inl refl; other = λ is. (cc); up = omega arith }) are.0 are.1 all)
+    (record { whole = zero_whole quantum counts; change = first_fits stretch.value are.1; other = λ is. (cc); up = omega arith }) are.0 are.2 all)
 
 follow_ascends : (from : ℕ) (others : List Stretch) → Follow from others → Ascends from (ends_of others)
 follow_ascends from [] follow = tt
@@ -222,4 +215,4 @@ covers_from from last (next ∷ others) is follow =
 pub merged_covers : (stretches : List Stretch) → AreStretches stretches
     → Covers 0 (ends_of stretches) (values_of stretches) (merged stretches)
 merged_covers [] are = absurd are
-merged_covers (stretch ∷ others) are = covers_from 0 stretch others are.0 are.1
+merged_covers (stretch ∷ others) are = covers_from 0 stretch others are.0 are.2

@@ -101,7 +101,7 @@ no_index zero file index is = cc
 no_index (suc count) zero index is = cc
 no_index (suc count) (suc file) index is = no_index count file index is
 
-pub none_known : (build : List (List ℕ)) (used : List (List ℕ)) (known : List (Option ℕ)) → length build < 2 ^ 31
+pub none_known : (build : List (List ℕ)) (used : List (List ℕ)) (known : List (Option ℕ)) → length build < 2 ^ 32
     → used ≡ [] → known ≡ replicate (length build) None → AreKnown build used known
 none_known build used known short empty is = record {
   count = ap length is ∙ length-replicate (length build) None;
@@ -187,7 +187,7 @@ pub small_index : (build used more : List (List ℕ)) (known : List (Option ℕ)
     → more ≡ with_name used name → index < length more → index < 2 ^ 32
 small_index build used more known name index are is within =
     let few : length used ≤ length build = few_used build used known are in
-    let short : length build < 2 ^ 31 = are.short in
+    let short : length build < 2 ^ 32 = are.short in
     let high : length more ≤ length used + 1 = rw is (with_longer used name).1 in
     omega arith
 

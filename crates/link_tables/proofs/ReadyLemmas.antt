@@ -2,7 +2,7 @@
 use Rattle.std.proofs.Common.{lit≤, ◌≡◌, inl, inr, ℕ, pos, ◌+◌, ◌-◌, ◌%◌, ◌^◌, ◌<◌, ◌≤◌, ◌==◌, get_or, arith, rules, List, [], ◌∷◌, map, length, All, Option, Some, None, IfSome, FitsSigned, refl, ap, ◌∙◌}
 use Rattle.std.specs.Prelude.{bit_and, slice_index}
 use Rattle.std.specs.Int.{w32}
-use Rattle.std.specs.List.{flat_map}
+use Rattle.std.specs.List.{flat_map, slice_get}
 use Rattle.std.proofs.lemmas.Bool.{cases_Bool}
 use Rattle.std.proofs.lemmas.List.{get_or-map, length-map}
 use Rattle.std.proofs.lemmas.List.Elements.{All-map}
@@ -19,25 +19,31 @@ use Rattle.link_tables.specs.UsedNames.{place_of, used_after}
 use Rattle.link_tables.specs.Table.{args_field, flags_field, names_in, files_of, part_of, text_start, parts_of, IsLinked, CanTell, EntriesAscend, AreReady}
 use Rattle.link_tables.proofs.MergedLemmas.{merged_runs}
 use Rattle.link_tables.proofs.UsedLemmas.{IsUsed, func_used}
-use Rattle.link_tables.proofs.TellLemmas.{each_row, stretches_rows, whole_rows, ends_whole, file_runs}
+use Rattle.link_tables.proofs.TellLemmas.{each_row, first_row, stretches_rows, smaller_rows, whole_rows, ends_whole, file_runs}
 
 -- the names of the files of a function's lines are used
 abbrev HasNames : {Instr : Type 0} → List (List ℕ) → List (List ℕ) → FuncLines Instr → Type 0
 HasNames {Instr} build used func =
     (line : ℕ) (e : Line Instr) → line < length func.lines.now → IsUsed used (file_name build (get_or func.lines.now line e).pos.file)
 
+first_depth : {Instr : Type 0} (line : Option (Line Instr)) → IfSome line (λ line. line.depth ≤ 2 ^ 31 - 2)
+    → IfSome line (λ line. (e : ℕ) → line.depth ≤ 2 ^ 31 - 2)
+first_depth None small = tt
+first_depth (Some line) small = λ e. small
+
 can_tell : {Instr : Type 0} (build used : List (List ℕ)) (quantum : ℕ) (func : FuncLines Instr) → IsLinked quantum (length build) func
-    → HasNames build used func → length used ≤ length build → length build < 2 ^ 31 → CanTell build used func
-can_tell build used quantum func linked names few short =
+    → HasNames build used func → length used < 2 ^ 31 → CanTell build used func
+can_tell build used quantum func linked names few =
     let placed : IsPlaced quantum (length build) func = linked.placed in
     let there : AreUsed build used (rows_of func)
     = each_row (λ row. place_of used (file_name build row.file) < length used) func.lines.now func.places.now func.length (λ k d e inside. (names k d inside).within) in
     record {
       depth = stretches_rows (λ row. row.depth) func.lines.now func.places.now func.length placed.some placed.count placed.bytes placed.short
-          (each_row (λ row. row.depth ≤ 2 ^ 31 - 2) func.lines.now func.places.now func.length (λ k d e inside. (placed.lines k d inside).small_depth));
-      file = stretches_rows (λ row. place_of used (file_name build row.file)) func.lines.now func.places.now func.length placed.some placed.count placed.bytes placed.short
+          (each_row (λ row. row.depth < 2 ^ 31) func.lines.now func.places.now func.length (λ k d e inside. (placed.lines k d inside).small_depth))
+          (first_row (λ row. row.depth ≤ 2 ^ 31 - 2) func.lines.now func.places.now func.length (first_depth (slice_get func.lines.now 0) placed.first));
+      file = smaller_rows (λ row. place_of used (file_name build row.file)) func.lines.now func.places.now func.length placed.some placed.count placed.bytes placed.short
           (λ k d below. let within : place_of used (file_name build (get_or (rows_of func) k d).file) < length used = there k d below in omega arith);
-      line = stretches_rows (λ row. row.line) func.lines.now func.places.now func.length placed.some placed.count placed.bytes placed.short
+      line = smaller_rows (λ row. row.line) func.lines.now func.places.now func.length placed.some placed.count placed.bytes placed.short
           (each_row (λ row. row.line ≤ 2 ^ 31 - 2) func.lines.now func.places.now func.length (λ k d e inside. (placed.lines k d inside).small_line));
       files = each_row (λ row. row.file < length build) func.lines.now func.places.now func.length (λ k d e inside. (placed.lines k d inside).in_files);
       there = there;
@@ -46,10 +52,10 @@ can_tell build used quantum func linked names few short =
     }
 
 pub can_tell_all : {Instr : Type 0} (build used : List (List ℕ)) (quantum : ℕ) (funcs : List (FuncLines Instr)) → All (IsLinked quantum (length build)) funcs
-    → used ≡ used_after [] (flat_map (names_in build) funcs) → length used ≤ length build → length build < 2 ^ 31 → All (CanTell build used) funcs
-can_tell_all build used quantum funcs linked is few short = λ k d below.
+    → used ≡ used_after [] (flat_map (names_in build) funcs) → length used < 2 ^ 31 → All (CanTell build used) funcs
+can_tell_all build used quantum funcs linked is few = λ k d below.
     can_tell build used quantum (get_or funcs k d) (linked k d below)
-    (λ line e inside. rw is (func_used build [] funcs k d below line e inside)) few short
+    (λ line e inside. rw is (func_used build [] funcs k d below line e inside)) few
 
 fits_number : (n : ℕ) → n < 2 ^ 31 → FitsSigned w32 (pos n)
 fits_number n small = search (rules, ints)
@@ -115,7 +121,7 @@ pub record AreNumbered {Instr : Type 0} (build : List (List ℕ)) (old now : Fil
   pub none : old ≡ record { build = build; used = [] }
   pub build_is : now.build ≡ old.build
   pub used_is : now.used ≡ used_after old.used (flat_map (names_in old.build) funcs)
-  pub few : length now.used ≤ length now.build
+  pub few : length (files_of build funcs) < 2 ^ 31
 
 numbered_build : {Instr : Type 0} (build : List (List ℕ)) (old now : FileNames) (funcs : List (FuncLines Instr)) → AreNumbered build old now funcs
     → now.build ≡ build
@@ -126,21 +132,21 @@ numbered_used : {Instr : Type 0} (build : List (List ℕ)) (old now : FileNames)
 numbered_used build old now funcs are =
     are.used_is ∙ ap (λ (files : FileNames). used_after files.used (flat_map (names_in files.build) funcs)) are.none
 
-pub all_tell : {Instr : Type 0} (build : List (List ℕ)) (old now : FileNames) (quantum : ℕ) (funcs : List (FuncLines Instr)) → length build < 2 ^ 31
+pub all_tell : {Instr : Type 0} (build : List (List ℕ)) (old now : FileNames) (quantum : ℕ) (funcs : List (FuncLines Instr))
     → All (IsLinked quantum (length build)) funcs → AreNumbered build old now funcs → All (CanTell now.build now.used) funcs
-all_tell build old now quantum funcs short linked are =
-    let same : now.build ≡ build = numbered_build build old now funcs are in
-    let few : length now.used ≤ length build = rw same at are.few in
-    rw same (can_tell_all build now.used quantum funcs linked (numbered_used build old now funcs are) few short)
-
-pub all_ready : {Instr : Type 0} (build : List (List ℕ)) (old now : FileNames) (quantum text_len : ℕ) (funcs : List (FuncLines Instr))
-    (files : List (List ℕ)) (list : List FuncPart) → IsQuantum quantum → length build < 2 ^ 31 → All (IsLinked quantum (length build)) funcs
-    → EntriesAscend funcs → text_len < 2 ^ 32 → AreNumbered build old now funcs → files ≡ now.used → list ≡ map (part_of now.build now.used) funcs
-    → AreReady (record { quantum = quantum; text_start = text_start; text_len = text_len; files = files; funcs = list })
-all_ready build old now quantum text_len funcs files list counts short linked ascend text are files-is list-is =
+all_tell build old now quantum funcs linked are =
     let same : now.build ≡ build = numbered_build build old now funcs are in
     let used : now.used ≡ files_of build funcs = numbered_used build old now funcs are in
-    let tell : All (CanTell build now.used) funcs = rw same at (all_tell build old now quantum funcs short linked are) in
+    rw same (can_tell_all build now.used quantum funcs linked used (rw used are.few))
+
+pub all_ready : {Instr : Type 0} (build : List (List ℕ)) (old now : FileNames) (quantum text_len : ℕ) (funcs : List (FuncLines Instr))
+    (files : List (List ℕ)) (list : List FuncPart) → IsQuantum quantum → All (IsLinked quantum (length build)) funcs
+    → EntriesAscend funcs → text_len < 2 ^ 32 → AreNumbered build old now funcs → files ≡ now.used → list ≡ map (part_of now.build now.used) funcs
+    → AreReady (record { quantum = quantum; text_start = text_start; text_len = text_len; files = files; funcs = list })
+all_ready build old now quantum text_len funcs files list counts linked ascend text are files-is list-is =
+    let same : now.build ≡ build = numbered_build build old now funcs are in
+    let used : now.used ≡ files_of build funcs = numbered_used build old now funcs are in
+    let tell : All (CanTell build now.used) funcs = rw same at (all_tell build old now quantum funcs linked are) in
     let list_is : list ≡ map (part_of build (files_of build funcs)) funcs = rw (same, used) at list-is in
     ready build now.used quantum text_len funcs (record { quantum = quantum; text_start = text_start; text_len = text_len; files = files; funcs = list })
     counts linked ascend text tell used

@@ -1,5 +1,6 @@
 -- The rows of a placed function can be told by tables.
-use Rattle.std.proofs.Common.{◌≡◌, inl, inr, ℕ, zero, suc, ◌-◌, ◌%◌, ◌^◌, ◌<◌, ◌≤◌, ◌==◌, get_or, drop, arith, List, [], ◌∷◌, map, length, All, refl}
+use Rattle.std.proofs.Common.{◌≡◌, inl, inr, ℕ, zero, suc, ◌-◌, ◌%◌, ◌^◌, ◌<◌, ◌≤◌, ◌==◌, get_or, drop, arith, List, [], ◌∷◌, map, length, All, IfSome, refl}
+use Rattle.std.specs.List.{slice_get}
 use Rattle.std.proofs.lemmas.Bool.{cases_Bool}
 use Rattle.std.proofs.lemmas.List.Elements.{All-map}
 use Rattle.pclntab.specs.Parts.{IsFile}
@@ -32,13 +33,24 @@ end_short (place ∷ places) end bytes =
     let rest : end_before places end ≤ end = end_short places end bytes.1 in
     omega arith
 
+all_first : {X : Type 0} (P : X → Type 0) (items : List X) → All P items → IfSome (slice_get items 0) P
+all_first P [] all = tt
+all_first P (item ∷ items) all = all 0 item (omega arith)
+
+-- what holds of the first line's row
+pub first_row : {Instr : Type 0} (P : Row → Type 0) (lines : List (Line Instr)) (places : List ℕ) (end : ℕ)
+    → IfSome (slice_get lines 0) (λ line. (e : ℕ) → P (row_of line e)) → IfSome (slice_get (rows_from lines places end) 0) P
+unfolding rows_from
+first_row P [] places end first = tt
+first_row P (line ∷ lines) places end first = first (end_before (drop 1 places) end)
+
 module _ (value : Row → ℕ) where
   abbrev pub stretch_of : Row → Stretch
   stretch_of row = record { end = row.end; value = value row }
 
   follow_rows : {Instr : Type 0} (lines : List (Line Instr)) (places : List ℕ) (end from : ℕ) → length places ≡ length lines
       → HaveBytes places end → end < 2 ^ 32 → from ≤ end_before places end
-      → All (λ row. value row ≤ 2 ^ 31 - 2) (rows_from lines places end) → Follow from (map stretch_of (rows_from lines places end))
+      → All (λ row. value row < 2 ^ 31) (rows_from lines places end) → Follow from (map stretch_of (rows_from lines places end))
   unfolding rows_from
   follow_rows [] places end from count bytes short up small = tt
   follow_rows (line ∷ lines) [] end from count bytes short up small = absurd (omega arith)
@@ -50,12 +62,23 @@ module _ (value : Row → ℕ) where
       )
 
   pub stretches_rows : {Instr : Type 0} (lines : List (Line Instr)) (places : List ℕ) (end : ℕ) → 0 < length lines → length places ≡ length lines
-      → HaveBytes places end → end < 2 ^ 32 → All (λ row. value row ≤ 2 ^ 31 - 2) (rows_from lines places end)
+      → HaveBytes places end → end < 2 ^ 32 → All (λ row. value row < 2 ^ 31) (rows_from lines places end)
+      → IfSome (slice_get (rows_from lines places end) 0) (λ row. value row ≤ 2 ^ 31 - 2)
       → AreStretches (map stretch_of (rows_from lines places end))
   unfolding rows_from
-  stretches_rows [] places end some count bytes short small = absurd (omega arith)
-  stretches_rows (line ∷ lines) places end some count bytes short small =
-      follow_rows (line ∷ lines) places end 0 count bytes short (omega arith) small
+  stretches_rows [] places end some count bytes short small first = absurd (omega arith)
+  stretches_rows (line ∷ lines) places end some count bytes short small first =
+      let follow = follow_rows (line ∷ lines) places end 0 count bytes short (omega arith) small in
+      (follow.0, first, follow.1)
+
+  -- values that are small even for a first one
+  pub smaller_rows : {Instr : Type 0} (lines : List (Line Instr)) (places : List ℕ) (end : ℕ) → 0 < length lines → length places ≡ length lines
+      → HaveBytes places end → end < 2 ^ 32 → All (λ row. value row ≤ 2 ^ 31 - 2) (rows_from lines places end)
+      → AreStretches (map stretch_of (rows_from lines places end))
+  smaller_rows lines places end some count bytes short small =
+      stretches_rows lines places end some count bytes short
+      (λ k d below. let less : value (get_or (rows_from lines places end) k d) ≤ 2 ^ 31 - 2 = small k d below in omega arith)
+      (all_first (λ row. value row ≤ 2 ^ 31 - 2) (rows_from lines places end) small)
 
   pub whole_rows : (quantum : ℕ) (rows : List Row) → All (λ row. row.end % quantum ≡ 0) rows → All (IsWhole quantum) (map stretch_of rows)
   whole_rows quantum rows all = All-map (IsWhole quantum) stretch_of rows all

@@ -35,7 +35,7 @@ place_short (next ∷ others) name =
       | inr later ↦ let rest : place_of others name ≤ length others = place_short others name in rw later (omega arith)
     ]
 
-used_self : (used : List (List ℕ)) (name : List ℕ) → IsUsed (with_name used name) name
+pub used_self : (used : List (List ℕ)) (name : List ℕ) → IsUsed (with_name used name) name
 used_self used name =
     let same : place_of (with_name used name) name ≡ place_of used name = place_with_self used name in
     elim (cases_Bool (has_name used name)) [

@@ -20,7 +20,7 @@ known_count (None ∷ others) = known_count others
 -- the indices that are kept by the build's numbers are right
 pub record AreKnown (build used : List (List ℕ)) (known : List (Option ℕ)) : Type 0 where
   pub count : length known ≡ length build
-  pub short : length build < 2 ^ 31
+  pub short : length build < 2 ^ 32
   pub few : length used ≤ known_count known
   pub within : (file index : ℕ) → slice_get known file ≡ Some (Some index) → index < length used
   pub place : (file index : ℕ) → slice_get known file ≡ Some (Some index) → index ≡ place_of used (file_name build file)

@@ -1,5 +1,6 @@
 -- The placed lines of a function.
-use Rattle.std.specs.Prelude.{◌≡◌, ◌<◌, ◌≤◌, ◌-◌, ◌^◌, ◌%◌, ℕ, List, [], ◌∷◌, All, length, drop}
+use Rattle.std.specs.Prelude.{◌≡◌, ◌<◌, ◌≤◌, ◌-◌, ◌^◌, ◌%◌, ℕ, List, [], ◌∷◌, All, length, drop, IfSome}
+use Rattle.std.specs.List.{slice_get}
 use Rattle.asm_target.specs.declared.body.Line.{Line}
 use Rattle.link_tables.specs.declared.func_lines.FuncLines.{FuncLines}
 use Rattle.link_tables.specs.declared.row.Row.{Row}
@@ -42,10 +43,11 @@ HaveBytes (place ∷ places) length = (place < end_before places length) × Have
 -- a line's file is one of so many, and its numbers fit the fields of a table
 pub record IsTellable {Instr : Type 0} (files : ℕ) (line : Line Instr) : Type 0 where
   pub in_files : line.pos.file < files
-  pub small_depth : line.depth ≤ 2 ^ 31 - 2
+  pub small_depth : line.depth < 2 ^ 31
   pub small_line : line.pos.line ≤ 2 ^ 31 - 2
 
--- the lines of a function are placed one behind the other, at whole quanta
+-- The lines of a function are placed one behind the other, at whole quanta. The depth of the first one is told as a change from -1,
+-- which has to fit too
 pub record IsPlaced {Instr : Type 0} (quantum files : ℕ) (func : FuncLines Instr) : Type 0 where
   pub some : 0 < length func.lines.now
   pub count : length func.places.now ≡ length func.lines.now
@@ -54,6 +56,7 @@ pub record IsPlaced {Instr : Type 0} (quantum files : ℕ) (func : FuncLines Ins
   pub whole : All (λ place. place % quantum ≡ 0) func.places.now
   pub end : func.length % quantum ≡ 0
   pub lines : All (IsTellable files) func.lines.now
+  pub first : IfSome (slice_get func.lines.now 0) (λ line. line.depth ≤ 2 ^ 31 - 2)
 
 -- the names of the rows' files are used
 abbrev pub AreUsed : List (List ℕ) → List (List ℕ) → List Row → Type 0

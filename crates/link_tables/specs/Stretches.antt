@@ -9,21 +9,22 @@ ends_of stretches = map (λ stretch. stretch.end) stretches
 abbrev pub values_of : List Stretch → List ℤ
 values_of stretches = map (λ stretch. pos stretch.value) stretches
 
--- a stretch ends behind its beginning, and its end and value fit the fields of a table, where values begin with -1
+-- a stretch ends behind its beginning, and its end and value fit the fields of a table
 pub record IsStretch (from : ℕ) (stretch : Stretch) : Type 0 where
   pub longer : from < stretch.end
   pub short : stretch.end < 2 ^ 32
-  pub value : stretch.value ≤ 2 ^ 31 - 2
+  pub value : stretch.value < 2 ^ 31
 
 -- each stretch begins where the one before it ends, the first at a place
 abbrev pub Follow : ℕ → List Stretch → Type 0
 Follow from [] = Unit {0}
 Follow from (stretch ∷ others) = IsStretch from stretch × Follow stretch.end others
 
--- the stretches of a function: at least one, from its first byte on
+-- The stretches of a function: at least one, from its first byte on. A table tells each value as a change, and begins with -1: so
+-- that the first change fits, the first value is less than 2^31 - 1
 abbrev pub AreStretches : List Stretch → Type 0
 AreStretches [] = ⊥
-AreStretches (stretch ∷ others) = IsStretch 0 stretch × Follow stretch.end others
+AreStretches (stretch ∷ others) = IsStretch 0 stretch × (stretch.value ≤ 2 ^ 31 - 2) × Follow stretch.end others
 
 -- a size of the steps by which tables count places
 abbrev pub IsQuantum : ℕ → Type 0

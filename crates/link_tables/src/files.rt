@@ -30,7 +30,7 @@ impl<'a> Model for Files<'a> {
 impl<'a> Files<'a> {
     /// None of the files of a build.
     pub fn new(alloc: Global, build: &'a [Name]) -> Result<Self, Memory>
-        requires { length build.now < 2 ^ 31 }
+        requires { length build.now < 2 ^ 32 }
         ensures { IfOk result (λ files. files ≡ (record { build = build.now; used = [] })) }
     {
         Ok(Files {

@@ -16,7 +16,7 @@ mod used_names;
 
 pub use files::Files;
 pub use func_lines::FuncLines;
-pub use laws::finer_stretches;
+pub use laws::{finer_stretches, linked_are_told, merged_covers};
 pub use parts::table_parts;
 pub use runs::runs_of;
 pub use stretch::Stretch;

@@ -31,8 +31,9 @@ pub fn table_parts<I>(
     text_len: u32,
 ) -> Result<TableParts, Memory>
     requires quantum { IsQuantum quantum }
-    requires files { length files.now < 2 ^ 31 }
+    requires files { length files.now < 2 ^ 32 }
     requires funcs { All (IsLinked quantum (length files.now)) funcs.now }
+    requires few { length (spec.files_of files.now funcs.now) < 2 ^ 31 }
     requires order { EntriesAscend funcs.now }
     ensures parts { IfOk result (λ parts. parts ≡ parts_of files.now quantum text_len funcs.now) }
 
