@@ -1,0 +1,4 @@
+pub mod PlaceLemmas
+pub mod FunctionLemmas
+pub mod EntryLemmas
+pub mod RefusalLemmas

@@ -1,0 +1,3 @@
+pub mod Resolved
+pub mod Functions
+pub mod Refusals
