@@ -1,0 +1,4 @@
+pub mod Around
+pub mod Codes
+pub mod Named
+pub mod Refusals
