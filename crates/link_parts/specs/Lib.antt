@@ -1,0 +1,4 @@
+pub mod Planned
+pub mod Symbols
+pub mod Image
+pub mod Fitted

@@ -1,0 +1,5 @@
+pub mod ZipLemmas
+pub mod SameLemmas
+pub mod LineLemmas
+pub mod ValueLemmas
+pub mod FitLemmas
