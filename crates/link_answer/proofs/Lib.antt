@@ -1,0 +1,9 @@
+pub mod ListLemmas
+pub mod SameLemmas
+pub mod EntryLemmas
+pub mod SiteLemmas
+pub mod CodesLemmas
+pub mod AroundLemmas
+pub mod FirstLemmas
+pub mod LinkLemmas
+pub mod PlacedLemmas
