@@ -1,12 +1,12 @@
 -- The image of a build is assembled of functions that break no rule.
-use Rattle.std.proofs.Common.{◌≡◌, false, ℕ, zero, suc, ◌+◌, ◌≤◌, ◌<◌, ◌^◌, List, [], ◌∷◌, length, map, take, get_or, Option, Some, refl, sym, ap, ◌∙◌, subst, arith}
+use Rattle.std.proofs.Common.{◌≡◌, false, ℕ, ◌+◌, ◌≤◌, ◌<◌, ◌^◌, List, length, map, take, Option, Some, refl, sym, ap, ◌∙◌, subst, arith}
 use Rattle.std.specs.Prelude.{All, sum, slice_index}
 use Rattle.std.specs.List.{AllZip, range_with_len, slice_get}
-use Rattle.std.specs.List.Sorted.{IsNonDecreasing, IsPermutation}
+use Rattle.std.specs.List.Sorted.{IsPermutation}
 use Rattle.std.proofs.lemmas.List.{length-map, take-map}
 use Rattle.std.proofs.lemmas.List.Elements.{All-weaker}
-use Rattle.std.proofs.lemmas.List.FromFn.{get_or-range_with_len, length-range_with_len}
-use Rattle.std.proofs.lemmas.Option.{get_or_from_slice_get, slice_get-get_or, slice_get-map, slice_get_within}
+use Rattle.std.proofs.lemmas.List.FromFn.{length-range_with_len}
+use Rattle.std.proofs.lemmas.Option.{get_or_from_slice_get, slice_get-map, slice_get_within}
 use Rattle.asm_target.proofs.PlaceLemmas.{item_at}
 use Rattle.asm_target.specs.declared.body.Placed.{Placed}
 use Rattle.asm_target.specs.FlowRules.{IsFlowSound}
@@ -14,7 +14,7 @@ use Rattle.byte_layout.specs.Joined.{aligned}
 use Rattle.elf_image.specs.declared.parts.ImageParts.{ImageParts}
 use Rattle.elf_image.specs.Contents as elf
 use Rattle.flow_rules.specs.Placing.{function_of}
-use Rattle.image_rules.specs.Parts.{Surrounds, count_in, entry_in, text_range}
+use Rattle.image_rules.specs.Parts.{Surrounds, count_in, entry_in}
 use Rattle.link_assembly.specs.Assembly.{Assembled, IsAssembled, IsAssembly, TellsLines, made_of, machine_with, text_of}
 use Rattle.link_build.specs.declared.build.Build.{Build}
 use Rattle.link_build.specs.Functions.{IsSound, Seen, functions_in}
@@ -25,7 +25,7 @@ use Rattle.link_code.specs.Astray.{is_astray, range_of}
 use Rattle.link_code.specs.Code.{HaveDepths, IsCode, IsOfUnit}
 use Rattle.link_flow.specs.declared.around.Around.{Around}
 use Rattle.link_flow.specs.Around.{addresses_of, growth_of, surroundings}
-use Rattle.link_flow.specs.Codes.{IsCodeOf, IsSiteOf}
+use Rattle.link_flow.specs.Codes.{IsSiteOf}
 use Rattle.link_flow.specs.Refusals.{KeepsGoals, KeepsRules}
 use Rattle.link_functions.specs.declared.code.UnitCode.{UnitCode}
 use Rattle.link_laws.specs.Made.{Made, bytes_of}
@@ -199,18 +199,18 @@ module _ {Instr : Type 0} (kit : Kit Instr) (growth : Option ℕ) (below : Holds
   made_same : map made_of all ≡ map made codes
   made_same =
       same_mapped made_of made all codes (chosen.as_many ∙ sym codes_count) (λ number one code_is here there.
-        let stands = chosen.each number one here in
-        let same : stands.code_is ≡ code_is = some_same (sym stands.code_here ∙ there) in
-        subst (λ (other : Code Instr). made_of one ≡ made other) same
-        (ap (λ (placed : List (Placed Instr)). record { code = map (λ placed. placed.instr) placed; depths = one.depths }) stands.placed_is
-        ∙ ap (λ (depths : List ℕ). record { code = instructions_of stands.code_is; depths = depths }) stands.depths_are))
+      let stands = chosen.each number one here in
+      let same : stands.code_is ≡ code_is = some_same (sym stands.code_here ∙ there) in
+      subst (λ (other : Code Instr). made_of one ≡ made other) same
+      (ap (λ (placed : List (Placed Instr)). record { code = map (λ placed. placed.instr) placed; depths = one.depths }) stands.placed_is
+      ∙ ap (λ (depths : List ℕ). record { code = instructions_of stands.code_is; depths = depths }) stands.depths_are))
 
   parts_same : map (part_of build.files used) lines ≡ map (λ (one : Assembled Instr). one.part) all
   parts_same =
       sym (same_mapped (λ (one : Assembled Instr). one.part) (part_of build.files used) all lines (chosen.as_many ∙ sym lines_count)
       (λ number one told here there.
-        let stands = chosen.each number one here in
-        stands.part_is ∙ ap (part_of build.files used) (some_same (sym stands.told_here ∙ there))))
+      let stands = chosen.each number one here in
+      stands.part_is ∙ ap (part_of build.files used) (some_same (sym stands.told_here ∙ there))))
 
   -- Sizes and places
 
@@ -262,9 +262,9 @@ module _ {Instr : Type 0} (kit : Kit Instr) (growth : Option ℕ) (below : Holds
       subst (λ (n : ℕ). map (λ (place : ℕ). elf.text_address + place) at ≡ map (entry_in bytes) (range_with_len 0 n)) (sym count)
       (same_mapped (λ (place : ℕ). elf.text_address + place) (entry_in bytes) at (range_with_len 0 (length at))
       (sym (length-range_with_len 0 (length at))) (λ number place n here there.
-        let less = slice_get_within at number place here in
-        ap (λ (other : ℕ). elf.text_address + other) (sym (get_or_from_slice_get at number place 0 here))
-        ∙ sym (entry_there number (omega (arith, less, at_count))) ∙ ap (entry_in bytes) (sym (range_at (length at) number n there less))))
+      let less = slice_get_within at number place here in
+      ap (λ (other : ℕ). elf.text_address + other) (sym (get_or_from_slice_get at number place 0 here))
+      ∙ sym (entry_there number (omega (arith, less, at_count))) ∙ ap (entry_in bytes) (sym (range_at (length at) number n there less))))
 
   outside_told : elf.outside_in bytes ≡ build.outside
   outside_told = linked.written.told.outside ∙ linked.kept.placed.fit.fits.symbols.outside_are

@@ -49,9 +49,9 @@ same_mapped {X} {Y} {Z} f g xs ys same each =
     sym (each_same (map f xs) (map g ys)
     (zip_from_got (λ (one other : Z). other ≡ one) (map f xs) (map g ys) (length-map xs f ∙ same ∙ sym (length-map ys g))
     (λ number one other here there.
-      let x = some_mapped f (slice_get xs number) one (sym (slice_get-map f xs number) ∙ here) in
-      let y = some_mapped g (slice_get ys number) other (sym (slice_get-map g ys number) ∙ there) in
-      sym y.2 ∙ sym (each number x.0 y.0 x.1 y.1) ∙ x.2)))
+    let x = some_mapped f (slice_get xs number) one (sym (slice_get-map f xs number) ∙ here) in
+    let y = some_mapped g (slice_get ys number) other (sym (slice_get-map g ys number) ∙ there) in
+    sym y.2 ∙ sym (each number x.0 y.0 x.1 y.1) ∙ x.2)))
 
 pub range_at : (count number n : ℕ) → slice_get (range_with_len 0 count) number ≡ Some n → number < count → n ≡ number
 range_at count number n here less =

@@ -1,5 +1,5 @@
 -- What a build is refused for, by the refusal of the call that found it.
-use Rattle.std.proofs.Common.{◌⊎◌, inl, inr, List}
+use Rattle.std.proofs.Common.{inl, inr, List}
 use Rattle.std.specs.Prelude.{All}
 use Rattle.link_build.specs.declared.build.Build.{Build}
 use Rattle.link_build.specs.declared.link_no.LinkNo.{LinkNo}

@@ -1,5 +1,5 @@
 -- Where the functions of an image stand.
-use Rattle.std.proofs.Common.{◌≡◌, ℕ, suc, ◌+◌, ◌≤◌, ◌<◌, ◌^◌, ◌⊎◌, inl, inr, List, length, map, get_or, Option, refl, sym, ap, ◌∙◌, subst, arith}
+use Rattle.std.proofs.Common.{◌≡◌, ℕ, ◌≤◌, ◌<◌, ◌^◌, inl, inr, List, length, get_or, Option, sym, ap, ◌∙◌, subst, arith}
 use Rattle.std.specs.Prelude.{All}
 use Rattle.std.specs.List.{AllZip}
 use Rattle.std.specs.List.Sorted.{IsNonDecreasing}
@@ -121,6 +121,9 @@ module _ {Instr : Type 0} (kit : Kit Instr) (build : Build) (names : List Entry)
   -- what is known where functions are judged
   pub somewhere : (funcs : List (Seen Instr)) → funcs ≡ functions_in code → (codes : List (Code Instr)) (around : Around)
       → IsPlaced kit build names code fitted codes around → AreCodesSomewhere kit funcs codes
-  somewhere funcs are codes around placed =
-      (names, fitted.addresses, function_places code,
-      subst (λ (all : List (Seen Instr)). AreCodes names fitted.addresses kit all (function_places code) codes) (sym are) placed.codes_are)
+  somewhere funcs are codes around placed = (
+    names,
+    fitted.addresses,
+    function_places code,
+    subst (λ (all : List (Seen Instr)). AreCodes names fitted.addresses kit all (function_places code) codes) (sym are) placed.codes_are,
+  )

@@ -1,29 +1,24 @@
 -- The parts of a build's image can be written.
-use Rattle.std.proofs.Common.{◌≡◌, true, ℕ, zero, suc, ◌+◌, ◌≤◌, ◌<◌, ◌^◌, ◌⊎◌, inl, inr, List, [], ◌∷◌, length, map, Option, Some, refl, sym, ap, ◌∙◌, subst, arith}
-use Rattle.std.specs.Prelude.{All, IsTrue, slice_index}
+use Rattle.std.proofs.Common.{◌≡◌, ℕ, zero, suc, ◌+◌, ◌<◌, inl, inr, List, [], ◌∷◌, length, map, Some, refl, sym, ap, ◌∙◌, subst, arith}
+use Rattle.std.specs.Prelude.{IsTrue, slice_index}
 use Rattle.std.specs.List.{list_any, slice_get}
 use Rattle.std.specs.Option.{option_map}
 use Rattle.std.proofs.lemmas.List.{length-map}
 use Rattle.std.proofs.lemmas.Option.{slice_get-map}
 use Rattle.asm_target.proofs.PlaceLemmas.{item_at}
 use Rattle.asm_target.specs.Architecture.{Architecture, IsArchitecture}
-use Rattle.elf_image.specs.declared.layout.Sizes.{Sizes}
 use Rattle.elf_image.specs.declared.parts.ImageParts.{ImageParts}
-use Rattle.elf_image.specs.declared.parts.SymbolPart.{SymbolPart}
 use Rattle.elf_image.specs.declared.rows.Wanted.TheVariants.{Machine}
-use Rattle.elf_image.specs.Image.{IsImage}
-use Rattle.elf_image.specs.Contents.{Tells}
 use Rattle.elf_image.specs.Layout.{image_length}
-use Rattle.elf_image.specs.Parts.{AreOrdered, IsPart, is_entry}
+use Rattle.elf_image.specs.Parts.{is_entry}
 use Rattle.elf_image.specs.Rows.{meets}
 use Rattle.elf_image.specs.Written.{AreParts, image_bytes, sizes_of}
 use Rattle.link_build.specs.declared.build.Build.{Build}
-use Rattle.link_build.specs.Functions.{IsEntryAt, Seen, functions_in}
-use Rattle.link_code.specs.declared.placing.Code.{Code}
+use Rattle.link_build.specs.Functions.{functions_in}
 use Rattle.link_functions.specs.declared.code.UnitCode.{UnitCode}
 use Rattle.link_names.specs.Definitions.{Entry}
 use Rattle.link_parts.specs.declared.fitting.Fitted.{Fitted}
-use Rattle.link_parts.specs.Image.{function_places, image_functions, image_sizes, sizes_with, table_size}
+use Rattle.link_parts.specs.Image.{function_places, image_sizes, sizes_with, table_size}
 use Rattle.link_parts.specs.Symbols.{Thing, function_thing, part_of, parts_behind}
 use Rattle.link_parts.proofs.ListableLemmas.{functions_count}
 use Rattle.link_places.proofs.PlaceLemmas.{length-places}
@@ -31,10 +26,9 @@ use Rattle.link_plan.specs.Addresses.{text_address}
 use Rattle.link_plan.specs.Plan.{text_size}
 use Rattle.link_plan.specs.Sizes.{code_sizes}
 use Rattle.link_tables.specs.declared.func_lines.FuncLines.{FuncLines}
-use Rattle.link_text.specs.Text.{image_text}
-use Rattle.link_values.specs.Values.{value_bytes, values_end}
+use Rattle.link_values.specs.Values.{values_end}
 use Rattle.unit_listing.specs.Kit.{Kit}
-use Rattle.image_link.specs.Linked.{IsFit, IsWritten, parts_of}
+use Rattle.image_link.specs.Linked.{IsFit}
 use Rattle.image_link.proofs.NumberLemmas.{some_same}
 
 pub known_machine : (known : Architecture) → IsArchitecture known → IsTrue (meets Machine known.machine)

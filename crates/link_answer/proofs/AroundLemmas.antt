@@ -1,5 +1,5 @@
 -- What surrounds the functions of an image is one, up to the order of what lies outside.
-use Rattle.std.proofs.Common.{◌≡◌, ℕ, ◌+◌, Bool, not, ◌&&◌, ◌==◌, List, map, refl, sym, ap, ◌∙◌}
+use Rattle.std.proofs.Common.{◌≡◌, ℕ, Bool, not, ◌&&◌, ◌==◌, List, sym, ap, ◌∙◌}
 use Rattle.std.specs.List.Sorted.{IsPermutation}
 use Rattle.std.proofs.lemmas.List.Sorted.{list_any-IsPermutation}
 use Rattle.asm_target.specs.declared.body.Placed.{Placed}
@@ -9,7 +9,6 @@ use Rattle.image_rules.specs.Sound.{direct_goal}
 use Rattle.unit_listing.specs.Kit.{Kit}
 use Rattle.link_code.specs.declared.placing.Code.{Code}
 use Rattle.link_code.specs.Astray.{is_astray, is_unknown, range_of}
-use Rattle.link_plan.specs.Addresses.{text_address}
 use Rattle.link_flow.specs.declared.around.Around.{Around}
 use Rattle.link_flow.specs.Around.{IsAround, addresses_of, growth_of, surroundings}
 use Rattle.link_flow.specs.Refusals.{rules_of}

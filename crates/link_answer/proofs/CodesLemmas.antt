@@ -10,7 +10,6 @@ use Rattle.asm_target.specs.declared.body.Placed.{Placed}
 use Rattle.unit_listing.specs.declared.laid.Laid.{Laid}
 use Rattle.unit_listing.specs.Kit.{Kit}
 use Rattle.unit_listing.specs.Laid.{IsSameLaid}
-use Rattle.unit_listing.proofs.OneLemmas.{same_item}
 use Rattle.link_names.specs.Definitions.{Entry, MeansAs}
 use Rattle.link_names.specs.declared.definition.Meaning.{Meaning}
 use Rattle.link_places.specs.Addresses.{TellsAs}

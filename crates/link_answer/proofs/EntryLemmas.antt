@@ -1,16 +1,14 @@
 -- A name stands for at most one function of an image.
-use Rattle.std.proofs.Common.{◌≡◌, ◌<◌, ℕ, zero, suc, Bool, true, false, List, [], ◌∷◌, map, Some, None, refl, sym, ap, ◌∙◌, inl, inr, arith}
+use Rattle.std.proofs.Common.{◌≡◌, ℕ, zero, suc, Bool, true, false, List, [], ◌∷◌, map, Some, None, refl, sym, ap, ◌∙◌, inl, inr, arith}
 use Rattle.std.specs.Prelude.{All, if◌then◌else◌}
 use Rattle.std.specs.List.{slice_get}
 use Rattle.std.proofs.lemmas.Bool.{cases_order}
 use Rattle.std.proofs.lemmas.List.Elements.{All-cons, All-map, All-nil}
 use Rattle.std.proofs.lemmas.Option.{slice_get-map}
 use Rattle.goasm_base.specs.declared.statement.Function.{Function}
-use Rattle.asm_parse.specs.declared.unit.Symbol.{Symbol}
 use Rattle.asm_parse.specs.declared.unit.Unit.{Unit as Said}
 use Rattle.unit_listing.specs.Kit.{Kit}
 use Rattle.link_names.specs.Definitions.{Entry, MeansAs, numbered}
-use Rattle.link_names.specs.declared.definition.Meaning.{Meaning}
 use Rattle.link_names.specs.declared.definition.Meaning.TheVariants as means
 use Rattle.link_functions.specs.Code.{AreLaid, AreParts, IsPart, IsUnitLaid}
 use Rattle.link_functions.specs.Kept.{is_kept, kept, kept_in}

@@ -6,7 +6,7 @@ use Rattle.std.proofs.lemmas.Bool.{cases_order}
 use Rattle.goasm_base.specs.declared.pos.Pos.{Pos}
 use Rattle.asm_target.specs.declared.body.Placed.{Placed}
 use Rattle.asm_target.specs.FlowFunction.{FlowFunction}
-use Rattle.asm_target.specs.FlowRules.{Breach, IsFirstBreach, IsFlowSound}
+use Rattle.asm_target.specs.FlowRules.{Breach, IsFirstBreach}
 use Rattle.asm_target.proofs.BreachLemmas.{same_breach, unsound}
 use Rattle.flow_rules.specs.declared.flow_no.FlowNo.{FlowNo}
 use Rattle.flow_rules.specs.Placing.{told}

@@ -1,5 +1,5 @@
 -- A build has one image, or one refusal.
-use Rattle.std.proofs.Common.{◌≡◌, ◌⊎◌, ◌+◌, ℕ, List, Option, inl, inr, refl, sym, ap, ◌∙◌, subst}
+use Rattle.std.proofs.Common.{◌≡◌, ◌⊎◌, ◌+◌, ℕ, List, Option, refl, sym, ap, ◌∙◌, subst}
 use Rattle.std.specs.Prelude.{All, slice_index}
 use Rattle.std.specs.List.{AllZip}
 use Rattle.goasm_base.specs.declared.pos.Pos.{Pos}
@@ -8,7 +8,6 @@ use Rattle.elf_image.specs.declared.parts.SymbolPart.{SymbolPart}
 use Rattle.elf_image.specs.Written.{image_bytes}
 use Rattle.unit_listing.specs.Kit.{Kit}
 use Rattle.link_names.specs.Definitions.{Entry, MeansAs}
-use Rattle.link_names.specs.declared.definition.Meaning.{Meaning}
 use Rattle.link_functions.specs.declared.code.UnitCode.{UnitCode}
 use Rattle.link_places.specs.Addresses.{TellsAs}
 use Rattle.link_plan.specs.Addresses.{text_address}
@@ -18,9 +17,9 @@ use Rattle.link_code.specs.declared.placing.Code.{Code}
 use Rattle.link_build.specs.declared.build.Build.{Build}
 use Rattle.link_build.specs.declared.link_no.LinkNo.{LinkNo}
 use Rattle.link_build.specs.declared.link_no.LinkNo.TheVariants as cause
-use Rattle.link_build.specs.Functions.{IsSound, Seen, functions_in}
+use Rattle.link_build.specs.Functions.{IsSound, functions_in}
 use Rattle.link_build.specs.Refusals.{IsUnresolved}
-use Rattle.link_build.specs.Resolved.{IsResolved, IsValidBuild}
+use Rattle.link_build.specs.Resolved.{IsResolved}
 use Rattle.link_parts.specs.declared.fitting.Fitted.{Fitted}
 use Rattle.link_parts.specs.Fitted.{IsFitted, IsTooLong}
 use Rattle.link_parts.specs.Image.{function_places}
@@ -29,7 +28,7 @@ use Rattle.link_flow.specs.declared.around.Around.{Around}
 use Rattle.link_flow.specs.Around.{IsAround}
 use Rattle.link_flow.specs.Codes.{AreCodes}
 use Rattle.link_flow.specs.Refusals.{IsUnplaced, KeepsGoals, KeepsRules}
-use Rattle.image_link.specs.Linked.{IsFit, IsKept, IsLinked, IsPlaced}
+use Rattle.image_link.specs.Linked.{IsFit, IsLinked, IsPlaced}
 use Rattle.image_link.specs.Refusals.{BreaksRules, GoesAstray, IsBeyondLimits, IsFirstRefusal, IsOutOfReach}
 use Rattle.build_answer.specs.Same.{IsSameCode}
 use Rattle.link_answer.proofs.AroundLemmas.{IsSameAround, same_around}

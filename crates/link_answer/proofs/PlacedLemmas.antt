@@ -1,7 +1,6 @@
 -- What refuses a build stands in one of its files, and is never want of memory.
-use Rattle.std.proofs.Common.{◌≡◌, ◌<◌, ◌+◌, ℕ, Bool, true, false, List, [], ◌∷◌, length, Some, refl, sym, subst, inl, inr}
+use Rattle.std.proofs.Common.{◌<◌, ◌+◌, ℕ, Bool, true, false, List, [], ◌∷◌, length, refl, sym, subst, inl, inr}
 use Rattle.std.specs.Prelude.{◌≢◌, All, if◌then◌else◌}
-use Rattle.std.specs.List.{slice_get}
 use Rattle.std.proofs.lemmas.List.Elements.{All-cons, All-nil}
 use Rattle.goasm_base.specs.declared.pos.Pos.{Pos}
 use Rattle.goasm_base.specs.declared.statement.Function.{Function}
@@ -24,8 +23,6 @@ use Rattle.unit_listing.proofs.PlacedLemmas.{LineIn, body_in, placed}
 use Rattle.link_names.specs.Definitions.{Entry}
 use Rattle.link_functions.specs.Kept.{is_kept, kept, kept_in, kept_of}
 use Rattle.link_functions.specs.declared.code.UnitCode.{UnitCode}
-use Rattle.link_code.specs.declared.placing.Code.{Code as Instructions}
-use Rattle.link_code.specs.Positions.{HasPos}
 use Rattle.link_build.specs.declared.build.Build.{Build}
 use Rattle.link_build.specs.declared.link_no.LinkNo.{LinkNo}
 use Rattle.link_build.specs.declared.link_no.LinkNo.TheVariants as cause

@@ -1,5 +1,4 @@
-use Rattle.std.proofs.Common.{◌≡◌, Err, List, map, subst, rules}
-use Rattle.link_build.specs.Functions.{Seen, seen}
+use Rattle.std.proofs.Common.{◌≡◌, Err, subst, rules}
 use Rattle.unit_listing.specs.Kit.{kit_of}
 use Rattle.image_link.specs.Refusals.{IsUnkept}
 use Rattle.image_link.proofs.RefusalLemmas.{unkept}
