@@ -2,7 +2,7 @@
 use Rattle.std.proofs.Common.{◌≡◌, ◌+◌, ◌<◌, ◌≤◌, ℕ, List, [], ◌∷◌, ◌++◌, Some, None, length, arith, subst, ap, ◌∙◌, length-append, append-nil}
 use Rattle.std.specs.Prelude.{All}
 use Rattle.std.specs.List.{cons_option}
-use Rattle.std.proofs.lemmas.List.Elements.{All-push, All-weaker, filter_map-append}
+use Rattle.std.proofs.lemmas.List.Elements.{All-push, All-tail, All-weaker, filter_map-append}
 use Rattle.goasm_base.specs.Lines.{last_line}
 use Rattle.goasm_list.specs.declared.line.ListLine.{ListLine}
 use Rattle.goasm_list.specs.Sound.{AreWithin}
@@ -45,6 +45,11 @@ numbers_all number parts numbers room = record {
   lines = numbers.lines;
   few = omega (arith, numbers.count, room);
 }
+
+-- the lines behind the first one are as the whole list's
+pub within_behind : (left rest : List ListLine) (line : ListLine) → left ≡ line ∷ rest → AreWithin last_line left → AreWithin last_line rest
+within_behind left rest line is within =
+    All-tail (λ line. (0 < line.line) × (line.line ≤ last_line)) line rest (subst (AreWithin last_line) is within)
 
 -- a list isn't so long that its lines go beyond the greatest one
 pub within_last : (most : ℕ) (lines : List ListLine) → most ≤ 1048576 → AreWithin most lines → AreWithin last_line lines
