@@ -14,11 +14,9 @@ use link_build::{Build, Func, find_entry};
 use link_functions::UnitCode;
 use link_names::Names;
 use link_parts::Fitted;
+use link_plan::TEXT_ADDRESS;
 use link_values::value_bytes;
 use std::alloc::Global;
-
-// The address of the first byte of an image's text.
-const TEXT_ADDRESS: u64 = 0x40_0000;
 
 /// Writes the image of a build: of its functions in their order, which stand at their addresses, and of its other parts.
 ///

@@ -6,8 +6,8 @@ use obj_rewrite::RewriteNo;
 use thiserror::Error;
 use unit_listing::ListingNo;
 
-/// Why a build has no image. Of several causes the one that stands first here is told, but those of N2 are told behind those of a
-/// function's instructions.
+/// Why a build has no image. Of several causes the one that stands first here is told; `Rewrite` and `Size` are one stage, of which the
+/// first function's is.
 #[derive(Debug, Drop, Error)]
 pub enum LinkNo {
     /// A symbol is defined twice, and not both times with DUPOK: its name.

@@ -7,10 +7,8 @@ ghost use Rattle.link_flow.specs.Around as spec;
 
 use flow_rules::Outside;
 use goasm_base::{Memory, Name};
+use link_plan::TEXT_ADDRESS;
 use std::alloc::Global;
-
-/// The address of the first byte of an image's text.
-pub const TEXT_ADDRESS: u64 = 0x40_0000;
 
 /// What surrounds the functions of an image.
 #[derive(Drop)]

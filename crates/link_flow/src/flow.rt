@@ -52,7 +52,7 @@ fn judge_func<T: Target>(
     ensures breach { let kit = kit_of T.instructions T.fits T.MACHINE T.QUANTUM T.SHAPE T.selection T.aiming T.entry T.check T.begins in
         (no : LinkNo) → result ≡ Err no → spec.IsBreach kit around.now (seen func.now) code.now no }
 {
-    // so short a function ends below 2^64
+    // So short a function ends below 2^64.
     let _length = length_of(&func.part.laid);
     let outside = around.outside();
     match flow_ok::<T>(code.placed.as_slice(), code.depths.as_slice(), &outside) {

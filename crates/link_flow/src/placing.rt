@@ -10,7 +10,6 @@ ghost use Rattle.link_flow.specs.Codes as codes_spec;
 ghost use Rattle.link_flow.specs.Named.{IsNamed};
 ghost use Rattle.link_flow.specs.Refusals as spec;
 
-use crate::around::TEXT_ADDRESS;
 use crate::named::name_at;
 use crate::symbols::{UnitSymbols, turn_to};
 use asm_target::Target;
@@ -19,7 +18,7 @@ use link_build::{Func, LinkNo};
 use link_code::{Code, PlaceNo, Site, place};
 use link_names::Names;
 use link_places::Addresses;
-use link_plan::growth_address;
+use link_plan::{TEXT_ADDRESS, growth_address};
 use std::alloc::Global;
 
 /// The instructions of the functions of a build at their addresses, each function at its place in the text, with what its symbols and

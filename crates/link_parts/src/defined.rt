@@ -8,12 +8,10 @@ ghost use Rattle.link_parts.specs.Symbols as spec;
 use asm_parse::{Symbol, Unit};
 use goasm_base::Memory;
 use link_build::Func;
+use link_plan::TEXT_ADDRESS;
 use link_symbols::Defined;
 use link_values::KeptValue;
 use std::alloc::Global;
-
-// The address of the first byte of an image's text.
-const TEXT_ADDRESS: u64 = 0x40_0000;
 
 /// Functions as symbols of an image, each at its place of the text.
 ///

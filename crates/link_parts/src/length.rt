@@ -6,15 +6,14 @@ ghost use Rattle.link_parts.specs.Image as spec;
 
 use elf_image::{Sizes, image_size};
 use goasm_base::Name;
+use link_plan::TEXT_ADDRESS;
 use link_symbols::{Defined, names_size};
 
 /// How many bytes an image may have.
 pub const MOST_BYTES: u64 = 0x0400_0000;
 
-// The text begins at this place of an image's bytes, and at this address; what is loaded behind it begins at a multiple of a page.
+// The text begins at this place of an image's bytes; what is loaded behind it begins at a multiple of a page.
 const TEXT_OFFSET: u64 = 4096;
-
-const TEXT_ADDRESS: u64 = 0x40_0000;
 
 const PAGE: u64 = 4096;
 

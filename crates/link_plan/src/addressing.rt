@@ -14,7 +14,7 @@ use link_places::Addresses;
 use std::alloc::Global;
 
 /// The address of the first byte of an image's text.
-const TEXT_ADDRESS: u64 = 0x40_0000;
+pub const TEXT_ADDRESS: u64 = 0x40_0000;
 
 /// The addresses of what the symbols of a build stand for, which stands as its plan says: each function behind the address 0x400000 of
 /// the text, its data behind the address that is given, and each outside name at the address that is given with it.

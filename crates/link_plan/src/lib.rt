@@ -8,7 +8,7 @@ mod planning;
 mod sizes;
 mod symbols;
 
-pub use addressing::addresses_of;
+pub use addressing::{TEXT_ADDRESS, addresses_of};
 pub use laws::padded_sizes_add_up;
 pub use planning::{Plan, plan_build};
 pub use symbols::{growth_address, unit_addresses};
